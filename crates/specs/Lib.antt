@@ -1,0 +1,4 @@
+pub mod AdValue
+pub mod Order
+pub mod Page
+pub mod Price

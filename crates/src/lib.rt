@@ -1,0 +1,10 @@
+//! The types of the subject and the definitions that every contract above cites.
+//! `better` is the order of ads: by score, then by quality, then by the smaller triple.
+//! It stands on nothing of the project.
+//! Ranking, pricing, matching and money are left to the crates above.
+#![tactic(auto)]
+
+mod ad;
+pub mod limits;
+
+pub use ad::{Ad, better};

@@ -18,6 +18,10 @@ IsBid bid = (BID_MIN ≤ bid) × (bid ≤ BID_MAX)
 abbrev pub IsQuality : ℕ → Type 0
 IsQuality quality = (QUALITY_MIN ≤ quality) × (quality ≤ QUALITY_MAX)
 
+-- an ad with bid and quality in range
+abbrev pub IsInRange : AdValue → Type 0
+IsInRange a = IsBid a.bid × IsQuality a.quality
+
 -- the score, by which ads are ranked first
 abbrev pub score : AdValue → ℕ
 score a = a.bid * a.quality

@@ -8,8 +8,10 @@ has_smaller_triple a b =
     nat_lt a.account b.account
     || (a.account == b.account && (nat_lt a.campaign b.campaign || (a.campaign == b.campaign && nat_lt a.line b.line)))
 
--- whether a ranks above b: by the higher score, then by the higher quality, then by the smaller triple
+-- whether a ranks above b where their scores are equal: by the higher quality, then by the smaller triple
+unfoldable pub wins_tie : AdValue → AdValue → Bool
+wins_tie a b = nat_lt b.quality a.quality || (a.quality == b.quality && has_smaller_triple a b)
+
+-- whether a ranks above b: by the higher score, then as at a tie
 unfoldable pub better : AdValue → AdValue → Bool
-better a b =
-    nat_lt (score b) (score a)
-    || (score a == score b && (nat_lt b.quality a.quality || (a.quality == b.quality && has_smaller_triple a b)))
+better a b = nat_lt (score b) (score a) || (score a == score b && wins_tie a b)

@@ -2,7 +2,7 @@
 
 ghost use Rattle.std.specs.Prelude.{◌≡◌, ◌≤◌, ◌↔◌, IsSome, IfSome};
 ghost use Rattle.desk_types.specs.AdValue.{IsBid, IsQuality, score};
-ghost use Rattle.desk_types.specs.Order.{better as is_better};
+ghost use Rattle.desk_types.specs.Order.{better as is_better, wins_tie as is_tie_won};
 
 use crate::limits::{BID_MAX, BID_MIN, QUALITY_MAX, QUALITY_MIN};
 use std::marker::Model;
@@ -20,13 +20,13 @@ pub struct Ad {
 }
 
 impl Model for Ad {
-    ghost use Rattle.desk_types.specs.AdValue.{AdValue, IsBid, IsQuality};
+    ghost use Rattle.desk_types.specs.AdValue.{AdValue, IsInRange};
 
     ghost Value = { AdValue };
 
     ghost view = { λ a. record { account = a.account; campaign = a.campaign; line = a.line; bid = a.bid; quality = a.quality } };
 
-    ghost invariant = { λ a. IsBid a.bid × IsQuality a.quality };
+    ghost invariant = { λ a. IsInRange (record { account = a.account; campaign = a.campaign; line = a.line; bid = a.bid; quality = a.quality }) };
 
     ghost inverse = { λ d. record { account = d.account; campaign = d.campaign; line = d.line; bid = d.bid; quality = d.quality } };
 }
@@ -109,6 +109,17 @@ impl Default for Ad {
     }
 }
 
+/// Whether `a` ranks above `b` where their scores are equal: by the higher quality, then by the
+/// smaller triple of account, campaign and line.
+pub fn wins_tie(a: &Ad, b: &Ad) -> bool
+    ensures { result ≡ is_tie_won a.now b.now }
+{
+    if a.quality != b.quality {
+        return a.quality > b.quality;
+    }
+    (a.account, a.campaign, a.line) < (b.account, b.campaign, b.line)
+}
+
 /// Whether `a` ranks above `b`: by score (bid times quality), then by quality, then by the smaller
 /// triple of account, campaign and line.
 pub fn better(a: &Ad, b: &Ad) -> bool
@@ -117,8 +128,5 @@ pub fn better(a: &Ad, b: &Ad) -> bool
     if a.score() != b.score() {
         return a.score() > b.score();
     }
-    if a.quality != b.quality {
-        return a.quality > b.quality;
-    }
-    (a.account, a.campaign, a.line) < (b.account, b.campaign, b.line)
+    wins_tie(a, b)
 }

@@ -5,6 +5,7 @@
 #![tactic(auto)]
 
 mod ad;
+pub mod laws;
 pub mod limits;
 
-pub use ad::{Ad, better};
+pub use ad::{Ad, better, wins_tie};

@@ -1,0 +1,2 @@
+pub mod AdLemmas
+pub mod OrderLemmas

@@ -1,5 +1,5 @@
 -- The order of ads (Edelman, Ostrovsky and Schwarz 2007, in the form with quality scores).
-use Rattle.std.specs.Prelude.{Bool, nat_lt, ◌==◌, ◌&&◌, ◌||◌}
+use Rattle.std.specs.Prelude.{Bool, true, nat_lt, ◌==◌, ◌&&◌, ◌||◌, Option, None, Some}
 use Rattle.desk_types.specs.AdValue.{AdValue, score}
 
 -- whether a's triple of account, campaign and line is the smaller one
@@ -15,3 +15,8 @@ wins_tie a b = nat_lt b.quality a.quality || (a.quality == b.quality && has_smal
 -- whether a ranks above b: by the higher score, then as at a tie
 unfoldable pub better : AdValue → AdValue → Bool
 better a b = nat_lt (score b) (score a) || (score a == score b && wins_tie a b)
+
+-- whether a is better than the ad below it, if there is one
+abbrev pub stays_ahead : AdValue → Option AdValue → Bool
+stays_ahead a None = true
+stays_ahead a (Some below) = better a below

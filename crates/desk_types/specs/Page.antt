@@ -1,5 +1,5 @@
 -- Entrants, places and the page.
-use Rattle.std.specs.Prelude.{ℕ, zero, suc, ◌+◌, Bool, ◌==◌, ◌&&◌, not, if◌then◌else◌, List, [], ◌∷◌, ◌++◌, Option, filter, count_by, find}
+use Rattle.std.specs.Prelude.{◌≢◌, ℕ, zero, suc, ◌+◌, Bool, ◌==◌, ◌&&◌, not, if◌then◌else◌, List, [], ◌∷◌, ◌++◌, Option, filter, count_by, find, AllPairs}
 use Rattle.std.specs.List.{list_any}
 use Rattle.desk_types.specs.AdValue.{AdValue, is_same_ad}
 use Rattle.desk_types.specs.Order.{better}
@@ -16,6 +16,10 @@ is_best_of_account ads a = not (list_any (λ b. b.account == a.account && better
 -- the entrants: for each account its ad than which no other ad of it is better
 unfoldable pub entrants : List AdValue → List AdValue
 entrants ads = distinct (filter (is_best_of_account ads) ads)
+
+-- whether no two ads of the list are of one account
+abbrev pub AreOfDifferentAccounts : List AdValue → Type 0
+AreOfDifferentAccounts ads = AllPairs (λ a b. a.account ≢ b.account) ads
 
 -- the place of an ad among entrants: one more than the number of better ones
 unfoldable pub place : List AdValue → AdValue → ℕ

@@ -2,6 +2,7 @@
 use Rattle.std.proofs.Common.{◌≡◌, ◌≢◌, ℕ, ◌*◌, ◌≤◌, Bool, true, false, ◌⊎◌, inl, inr, nat_lt, ◌==◌, ◌&&◌, ◌||◌, refl, sym, ap, ◌∙◌, ◌/◌, arith}
 use Rattle.std.proofs.lemmas.Bool.Decides.{nat_tests}
 use Rattle.std.proofs.lemmas.Bool.{false_from_ne_true, true_from_ne_false, both_ways, cases_Bool}
+use Rattle.std.specs.Cmp.{IsStrictWeakOrder}
 use Rattle.std.proofs.Math.Nat.{mul-div_cancel}
 use Rattle.desk_types.proofs.AdLemmas.{same_ad, is_same_ad-true, is_same_ad-refl}
 use Rattle.desk_types.specs.AdValue.{AdValue, IsInRange, score, is_same_line}
@@ -26,6 +27,12 @@ greater_irreflexive x p h = grind (arith, nat_tests)
 
 greater_total : (x y : ℕ) (p q : Bool) → (x ≡ y → (p ≡ true) ⊎ (q ≡ true)) → ((nat_lt y x || (x == y && p)) ≡ true) ⊎ ((nat_lt x y || (y == x && q)) ≡ true)
 greater_total x y p q then = grind (arith, nat_tests)
+
+smaller_chain : (x y z : ℕ) (p q r : Bool) → (p ≡ false → q ≡ false → r ≡ false) → (nat_lt x y || (x == y && p)) ≡ false → (nat_lt y z || (y == z && q)) ≡ false → (nat_lt x z || (x == z && r)) ≡ false
+smaller_chain x y z p q r then h k = grind (arith, nat_tests)
+
+greater_chain : (x y z : ℕ) (p q r : Bool) → (p ≡ false → q ≡ false → r ≡ false) → (nat_lt y x || (x == y && p)) ≡ false → (nat_lt z y || (y == z && q)) ≡ false → (nat_lt z x || (x == z && r)) ≡ false
+greater_chain x y z p q r then h k = grind (arith, nat_tests)
 
 pub better-irreflexive : (a : AdValue) → better a a ≡ false
 unfolding better wins_tie has_smaller_triple
@@ -85,3 +92,15 @@ better-total_in_range a b ra rb ne =
       | inl ab ↦ inl ab
       | inr ab ↦ inr (true_from_ne_false (better b a) (λ ba. ne (same_if_neither a b ra rb ab ba)))
     ]
+
+better-chain : (a b c : AdValue) → better a b ≡ false → better b c ≡ false → better a c ≡ false
+unfolding better wins_tie has_smaller_triple
+better-chain a b c =
+    greater_chain (score a) (score b) (score c) _ _ _ (
+        greater_chain a.quality b.quality c.quality _ _ _ (
+            smaller_chain a.account b.account c.account _ _ _ (
+                smaller_chain a.campaign b.campaign c.campaign _ _ _ (λ h k. grind (arith, nat_tests)))))
+
+-- so a sort by better has one outcome for ads in range
+pub better-weak_order : IsStrictWeakOrder better
+better-weak_order = record { one_way = better-asym; chain = better-chain }

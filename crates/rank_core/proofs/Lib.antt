@@ -1,0 +1,2 @@
+mod FirstsLemmas
+mod NextsLemmas

@@ -1,15 +1,14 @@
 -- Lists of ads of different accounts, and that each has a ranking.
-use Rattle.std.proofs.Common.{◌≡◌, ◌≢◌, ℕ, zero, suc, ◌+◌, ◌<◌, ◌≤◌, Bool, true, false, ◌==◌, ◌&&◌, cond, ◌⊎◌, inl, inr, List, [], ◌∷◌, ◌++◌, Option, None, Some, length, get_or, refl, sym, ap, subst, ◌∙◌, arith}
-use Rattle.std.specs.List.{slice_get, AllPairs}
+use Rattle.std.proofs.Common.{◌≡◌, ◌≢◌, ℕ, zero, suc, ◌<◌, true, false, ◌==◌, cond, ◌⊎◌, inl, inr, List, [], ◌∷◌, Some, length, get_or, refl, sym, ap, subst, ◌∙◌, arith}
+use Rattle.std.specs.List.{slice_get}
 use Rattle.std.proofs.lemmas.Bool.{cases_Bool, and_left, ne_eqb, both_ways}
 use Rattle.std.proofs.lemmas.List.Elements.{Contains-get_or}
-use Rattle.std.proofs.lemmas.Option.{slice_get-get_or}
-use Rattle.desk_types.specs.AdValue.{AdValue, is_same_line}
+use Rattle.desk_types.specs.AdValue.{AdValue}
 use Rattle.desk_types.specs.Order.{better}
-use Rattle.desk_types.specs.Page.{AreOfDifferentAccounts, next_below}
+use Rattle.desk_types.specs.Page.{AreOfDifferentAccounts}
 use Rattle.desk_types.proofs.OrderLemmas.{better-trans, better-total}
 use Rattle.desk_types.proofs.Members.{Has, Contains-from_Has, Has-from_Contains, SameCounts, SameCounts-refl, SameCounts-sym, SameCounts-trans, SameCounts-cons, SameCounts-swap, SameCounts-Has}
-use Rattle.desk_types.proofs.Ranking.{IsAbove, IsRanked, IsRanking, split_at, next_below-ranking}
+use Rattle.desk_types.proofs.Ranking.{IsRanked, IsRanking}
 
 -- x's account is that of no ad of the list
 abbrev pub IsOfOther : AdValue → List AdValue → Type 0

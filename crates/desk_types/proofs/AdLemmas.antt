@@ -1,8 +1,8 @@
 -- When two ads are equal.
-use Rattle.std.proofs.Common.{◌≡◌, ℕ, Bool, true, false, ◌==◌, ◌&&◌, arith}
+use Rattle.std.proofs.Common.{◌≡◌, ℕ, Bool, true, ◌==◌, ◌&&◌, arith}
 use Rattle.std.proofs.lemmas.Bool.Decides.{nat_tests}
 use Rattle.std.proofs.lemmas.Bool.{eqb-true}
-use Rattle.desk_types.specs.AdValue.{AdValue, is_same_line, is_same_ad, with_bid}
+use Rattle.desk_types.specs.AdValue.{AdValue, is_same_ad}
 
 ad_of : ℕ → ℕ → ℕ → ℕ → ℕ → AdValue
 ad_of account campaign line bid quality = record { account = account; campaign = campaign; line = line; bid = bid; quality = quality }

@@ -1,7 +1,7 @@
 -- The entrants are the best ad of each account.
-use Rattle.std.proofs.Common.{◌≡◌, ◌≢◌, ℕ, Bool, true, false, ◌==◌, ◌&&◌, ◌||◌, not, cond, ◌⊎◌, inl, inr, List, [], ◌∷◌, refl, sym, ap, subst, ◌∙◌, arith}
-use Rattle.std.specs.List.{filter, list_any, All, Contains}
-use Rattle.std.proofs.lemmas.Bool.{cases_Bool, cond-true, cond-false, both_ways, not-true, not_from_false, and_parts, and_from, or_parts, or_left, or_right, eqb-true, eq-eqb, false_from_ne_true, cases_eq}
+use Rattle.std.proofs.Common.{◌≡◌, Bool, true, false, ◌==◌, ◌&&◌, ◌||◌, ◌⊎◌, inl, inr, List, [], ◌∷◌, refl, sym, ap, subst, ◌∙◌}
+use Rattle.std.specs.List.{filter, list_any, All}
+use Rattle.std.proofs.lemmas.Bool.{cases_Bool, cond-true, cond-false, both_ways, not-true, not_from_false, and_parts, and_from, or_left, or_right, eqb-true, eq-eqb, false_from_ne_true}
 use Rattle.std.proofs.lemmas.List.Elements.{All-contains}
 use Rattle.desk_types.specs.AdValue.{AdValue, IsInRange, is_same_ad}
 use Rattle.desk_types.specs.Order.{better}
@@ -10,7 +10,7 @@ use Rattle.desk_types.specs.Laws.{AreBestOfAccounts}
 use Rattle.desk_types.proofs.AdLemmas.{is_same_ad-true, is_same_ad-refl}
 use Rattle.desk_types.proofs.OrderLemmas.{better-irreflexive, better-trans, same_if_neither}
 use Rattle.desk_types.proofs.Members.{Has, Has-from_Contains, Contains-from_Has, Has-filter, Has-filtered}
-use Rattle.desk_types.proofs.Accounts.{IsOfOther, AreApart, AreOfDifferentAccounts-from}
+use Rattle.desk_types.proofs.Accounts.{AreApart, AreOfDifferentAccounts-from}
 
 pub list_any-Has : (p : AdValue → Bool) (xs : List AdValue) (x : AdValue) → Has xs x → p x ≡ true → list_any p xs ≡ true
 list_any-Has p [] x h t = elim h [ ]

@@ -1,10 +1,10 @@
 -- Better is a strict total order.
-use Rattle.std.proofs.Common.{◌≡◌, ◌≢◌, ℕ, ◌*◌, ◌≤◌, Bool, true, false, ◌⊎◌, inl, inr, nat_lt, ◌==◌, ◌&&◌, ◌||◌, refl, sym, ap, ◌∙◌, ◌/◌, arith}
+use Rattle.std.proofs.Common.{◌≡◌, ◌≢◌, ℕ, ◌*◌, ◌≤◌, Bool, true, false, ◌⊎◌, inl, inr, nat_lt, ◌==◌, ◌&&◌, ◌||◌, sym, ap, ◌∙◌, ◌/◌, arith}
 use Rattle.std.proofs.lemmas.Bool.Decides.{nat_tests}
 use Rattle.std.proofs.lemmas.Bool.{false_from_ne_true, true_from_ne_false, both_ways, cases_Bool}
 use Rattle.std.specs.Cmp.{IsStrictWeakOrder}
 use Rattle.std.proofs.Math.Nat.{mul-div_cancel}
-use Rattle.desk_types.proofs.AdLemmas.{same_ad, is_same_ad-true, is_same_ad-refl}
+use Rattle.desk_types.proofs.AdLemmas.{same_ad}
 use Rattle.desk_types.specs.AdValue.{AdValue, IsInRange, score, is_same_line}
 use Rattle.desk_types.specs.Order.{has_smaller_triple, wins_tie, better}
 
@@ -97,9 +97,9 @@ better-chain : (a b c : AdValue) → better a b ≡ false → better b c ≡ fal
 unfolding better wins_tie has_smaller_triple
 better-chain a b c =
     greater_chain (score a) (score b) (score c) _ _ _ (
-        greater_chain a.quality b.quality c.quality _ _ _ (
-            smaller_chain a.account b.account c.account _ _ _ (
-                smaller_chain a.campaign b.campaign c.campaign _ _ _ (λ h k. grind (arith, nat_tests)))))
+    greater_chain a.quality b.quality c.quality _ _ _ (
+    smaller_chain a.account b.account c.account _ _ _ (
+    smaller_chain a.campaign b.campaign c.campaign _ _ _ (λ h k. grind (arith, nat_tests)))))
 
 -- so a sort by better has one outcome for ads in range
 pub better-weak_order : IsStrictWeakOrder better

@@ -1,16 +1,16 @@
 -- The page is the first places, and the next below is the next.
-use Rattle.std.proofs.Common.{◌≡◌, ◌≢◌, ℕ, zero, suc, ◌+◌, ◌-◌, ◌<◌, ◌≤◌, min, Bool, true, false, ◌⊎◌, inl, inr, List, [], ◌∷◌, ◌++◌, Option, None, Some, length, take, drop, refl, sym, ap, subst, ◌∙◌, arith, length-take}
+use Rattle.std.proofs.Common.{◌≡◌, ℕ, zero, suc, ◌+◌, ◌<◌, ◌≤◌, min, true, inl, inr, List, [], ◌∷◌, Option, None, Some, take, refl, sym, ap, subst, ◌∙◌, arith, length-take}
 use Rattle.std.specs.List.{slice_get, Contains}
 use Rattle.std.specs.Option.{IfSome}
 use Rattle.std.proofs.lemmas.Option.{same_Some}
 use Rattle.std.proofs.lemmas.Bool.{cases_lt}
 use Rattle.desk_types.specs.AdValue.{AdValue}
 use Rattle.desk_types.specs.Order.{better}
-use Rattle.desk_types.specs.Page.{AreOfDifferentAccounts, place, page, next_below}
+use Rattle.desk_types.specs.Page.{AreOfDifferentAccounts, page, next_below}
 use Rattle.desk_types.specs.Laws.{AreFirstPlaces, IsNextBelow}
-use Rattle.desk_types.proofs.Members.{Has, Has-from_Contains, Contains-from_Has, SameCounts, SameCounts-Has, SameCounts-length, SameCounts-sym}
-use Rattle.desk_types.proofs.Ranking.{IsAbove, IsRanked, IsRanking, page-ranking, place-at, next_below-ranking}
-use Rattle.desk_types.proofs.Accounts.{AreApart, AreApart-from, ranking_of, IsRanking-of, slice_get-Has}
+use Rattle.desk_types.proofs.Members.{Has, Has-from_Contains, Contains-from_Has, SameCounts-Has, SameCounts-length, SameCounts-sym}
+use Rattle.desk_types.proofs.Ranking.{IsRanked, IsRanking, page-ranking, place-at, next_below-ranking}
+use Rattle.desk_types.proofs.Accounts.{AreApart-from, ranking_of, IsRanking-of, slice_get-Has}
 
 pub Has-slice_get : (xs : List AdValue) (k : ℕ) (x : AdValue) → slice_get xs k ≡ Some x → Has xs x
 Has-slice_get [] k x h = absurd cc

@@ -1,5 +1,5 @@
 -- What the price of an entrant is.
-use Rattle.std.proofs.Common.{◌≡◌, ◌≢◌, ℕ, zero, suc, ◌+◌, ◌-◌, ◌*◌, ◌<◌, ◌≤◌, Bool, true, false, nat_lt, nat_le, ◌==◌, ◌&&◌, ◌||◌, cond, ◌⊎◌, inl, inr, List, [], ◌∷◌, ◌++◌, Option, None, Some, map, length, refl, sym, ap, subst, ◌∙◌, arith}
+use Rattle.std.proofs.Common.{◌≡◌, ◌≢◌, ℕ, zero, suc, ◌+◌, ◌-◌, ◌*◌, ◌≤◌, Bool, true, false, nat_lt, ◌==◌, ◌&&◌, ◌||◌, cond, inl, inr, List, [], ◌∷◌, ◌++◌, refl, sym, ap, subst, ◌∙◌, arith}
 use Rattle.std.specs.List.{count_by, slice_get}
 use Rattle.std.proofs.Math.Nat.{mul-le-mul_right}
 use Rattle.std.proofs.lemmas.Bool.{cases_Bool, both_ways, and_parts, and_from, leb-true, le-leb, eqb-true, eq-eqb, ne_eqb, false_from_ne_true, cases_eq, cases_lt}
@@ -12,7 +12,7 @@ use Rattle.desk_types.specs.Laws.{IsLeastPrice}
 use Rattle.desk_types.proofs.AdLemmas.{is_same_ad-true, is_same_ad-refl}
 use Rattle.desk_types.proofs.OrderLemmas.{better-irreflexive, better-trans, better-asym}
 use Rattle.desk_types.proofs.Members.{Has, Has-append_cases, Has-append_right, SameCounts, SameCounts-Has, SameCounts-sym, count_by-map, count_by-agree, count_by-lt}
-use Rattle.desk_types.proofs.Ranking.{IsAbove, AreAbove, IsRanked, IsRanking, ranked_around, split_at, next_below-ranking}
+use Rattle.desk_types.proofs.Ranking.{IsRanked, ranked_around, split_at, next_below-ranking}
 use Rattle.desk_types.proofs.Accounts.{AreApart, one_of_account, better_one, ranking_of, IsRanking-of, slice_get-Has, right_one}
 
 -- the first number that passes

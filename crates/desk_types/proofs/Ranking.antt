@@ -1,14 +1,14 @@
 -- Lists of ads in order, best first, and what place, page and next below are by such a list.
-use Rattle.std.proofs.Common.{◌≡◌, ◌≢◌, ℕ, zero, suc, ◌+◌, ◌<◌, ◌≤◌, Bool, true, false, ◌==◌, cond, ◌⊎◌, inl, inr, List, [], ◌∷◌, ◌++◌, Option, None, Some, length, take, refl, sym, ap, subst, ◌∙◌, arith, append_assoc, length-append}
-use Rattle.std.specs.List.{count_by, filter, find, slice_get}
+use Rattle.std.proofs.Common.{◌≡◌, ℕ, zero, suc, ◌+◌, ◌≤◌, true, false, ◌==◌, inl, inr, List, [], ◌∷◌, ◌++◌, Some, length, take, refl, sym, ap, subst, ◌∙◌, arith, append_assoc, length-append}
+use Rattle.std.specs.List.{count_by, filter, slice_get}
 use Rattle.std.specs.Option.{option_to_list}
-use Rattle.std.proofs.lemmas.Bool.{cases_Bool, both_ways, eq-eqb, ne_eqb}
+use Rattle.std.proofs.lemmas.Bool.{eq-eqb, ne_eqb}
 use Rattle.std.proofs.lemmas.List.Elements.{filter_agree}
 use Rattle.std.proofs.lemmas.Option.{same_Some}
 use Rattle.desk_types.specs.AdValue.{AdValue}
 use Rattle.desk_types.specs.Order.{better}
 use Rattle.desk_types.specs.Page.{place, at_place, page, next_below}
-use Rattle.desk_types.proofs.OrderLemmas.{better-irreflexive, better-trans, better-asym}
+use Rattle.desk_types.proofs.OrderLemmas.{better-irreflexive, better-asym}
 use Rattle.desk_types.proofs.Members.{Has, Has-append_right, SameCounts, SameCounts-filter, SameCounts-option, count_by-append, count_by-cons, count_by-all, count_by-none, find-head, head, head-option}
 
 -- x is better than each of the list

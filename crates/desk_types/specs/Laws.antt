@@ -1,8 +1,8 @@
 -- What entrants, pages and prices are, in the words of the subject.
-use Rattle.std.specs.Prelude.{◌≡◌, ◌≢◌, ℕ, ◌+◌, ◌*◌, ◌≤◌, min, false, List, Option, None, Some, length, IsTrue, Contains, slice_get}
+use Rattle.std.specs.Prelude.{◌≡◌, ℕ, ◌+◌, ◌*◌, ◌≤◌, min, false, List, Some, length, IsTrue, Contains, slice_get}
 use Rattle.desk_types.specs.AdValue.{AdValue, with_bid}
 use Rattle.desk_types.specs.Order.{better}
-use Rattle.desk_types.specs.Page.{AreOfDifferentAccounts, place, next_below}
+use Rattle.desk_types.specs.Page.{AreOfDifferentAccounts, place}
 use Rattle.desk_types.specs.Price.{with_bid_of}
 
 -- the best ad of each account that has one

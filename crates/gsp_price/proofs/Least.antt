@@ -1,5 +1,5 @@
 -- The least bid that is enough, by one division, and that it is the definition's price.
-use Rattle.std.proofs.Common.{◌≡◌, ℕ, ◌+◌, ◌*◌, ◌/◌, ◌%◌, ◌<◌, ◌≤◌, min, max, Bool, true, false, nat_lt, nat_le, ◌==◌, ◌&&◌, ◌||◌, cond, inl, inr, List, Option, None, Some, refl, sym, ap, subst, ◌∙◌, arith, Bor}
+use Rattle.std.proofs.Common.{◌≡◌, ℕ, ◌+◌, ◌*◌, ◌<◌, ◌≤◌, max, true, false, nat_lt, nat_le, ◌==◌, ◌&&◌, ◌||◌, inl, inr, List, Option, None, Some, refl, sym, ap, ◌∙◌, arith, Bor}
 use Rattle.std.specs.Int.{div_ceil}
 use Rattle.std.specs.List.{Contains}
 use Rattle.std.specs.Option.{IfSome, option_copied}
@@ -35,7 +35,7 @@ ahead-tie_lost a below bid h =
 factor_le : (m q b d : ℕ) → d * q < m + q → m ≤ b * q → d ≤ b
 factor_le m q b d above h =
     elim (cases_lt b d) [
-        inl less ↦ absurd (omega (arith, above, h, mul-le-mul_right q less))
+      | inl less ↦ absurd (omega (arith, above, h, mul-le-mul_right q less))
       | inr within ↦ within
     ]
 
@@ -81,12 +81,12 @@ unfolding is_enough
 price_among reserve floor result entered a next apart ha is low high at_most enough least =
     let kept = λ (bid : ℕ) (own : bid ≤ a.bid). keeps_place-is entered a bid (AreApart-from entered apart) (Has-from_Contains entered a ha) own ∙ ap (stays_ahead (with_bid a bid)) is in
     let at_result : is_enough reserve floor entered a result ≡ true
-        = and_from _ _ (le-leb reserve result enough.meets_reserve) (and_from _ _ (le-leb floor (result * a.quality) enough.meets_floor) (kept result at_most ∙ enough.ahead)) in
+    = and_from _ _ (le-leb reserve result enough.meets_reserve) (and_from _ _ (le-leb floor (result * a.quality) enough.meets_floor) (kept result at_most ∙ enough.ahead)) in
     let first = and_parts _ _ (price-is_enough reserve floor entered a low high) in
     let second = and_parts _ _ first.1 in
     let own = price-le-bid reserve floor entered a low in
     let at_price : IsEnough reserve floor a next (price reserve floor entered a)
-        = record { meets_reserve = leb-true _ _ first.0; meets_floor = leb-true _ _ second.0; ahead = sym (kept _ own) ∙ second.1 } in
+    = record { meets_reserve = leb-true _ _ first.0; meets_floor = leb-true _ _ second.0; ahead = sym (kept _ own) ∙ second.1 } in
     omega (arith, least _ at_price, price-least reserve floor entered a result at_most at_result)
 
 pub stays_ahead-own : (a : AdValue) (next : Option (Bor AdValue)) → IfSome next (λ below. better a below.now ≡ true) → stays_ahead a (option_copied next) ≡ true

@@ -33,7 +33,10 @@ pub fn price(ad: &Ad, next: Option<&Ad>, reserve: u64, floor: u64) -> u64
     ensures at_most_bid { result ≤ ad.now.bid }
     ensures among { (entered : List AdValue) → AreOfDifferentAccounts entered → Contains entered ad.now → next_below entered ad.now ≡ option_copied next.entry → result ≡ price_of reserve floor entered ad.now }
 {
-    least_score(ad, next).max(floor).div_ceil(ad.quality()).max(reserve)
+    least_score(ad, next)
+        .max(floor)
+        .div_ceil(ad.quality())
+        .max(reserve)
 }
 
 /// The least score with which the ad stays better than `next`.

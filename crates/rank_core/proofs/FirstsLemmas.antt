@@ -1,19 +1,19 @@
 -- The first ad of each account of a list, and that of a list in order they are the ranked entrants.
-use Rattle.std.proofs.Common.{◌≡◌, ◌≢◌, ℕ, zero, suc, ◌+◌, ◌<◌, ◌≤◌, Bool, true, false, not, ◌==◌, ◌||◌, cond, ◌⊎◌, inl, inr, List, [], ◌∷◌, ◌++◌, length, take, drop, get_or, refl, sym, ap, subst, ◌∙◌, arith, append_assoc, append-nil}
+use Rattle.std.proofs.Common.{◌≡◌, ◌≢◌, ℕ, suc, ◌+◌, ◌<◌, Bool, true, false, ◌==◌, cond, inl, inr, List, [], ◌∷◌, ◌++◌, length, take, drop, get_or, refl, sym, ap, subst, ◌∙◌, arith, append_assoc, append-nil}
 use Rattle.std.specs.List.{filter, list_any, All}
 use Rattle.std.specs.List.Sorted.{IsPermutation, IsSortedBy}
-use Rattle.std.proofs.lemmas.Bool.{cases_Bool, cond-true, cond-false, both_ways, or_left, or_right, or_parts, not-true, not_from_false, not_from_true, eq-eqb, ne_eqb, eqb-true, eqb-false, false_from_ne_true}
+use Rattle.std.proofs.lemmas.Bool.{cases_Bool, cond-true, cond-false, both_ways, or_left, or_right, not-true, not_from_false, not_from_true, eq-eqb, ne_eqb, eqb-true, eqb-false, false_from_ne_true}
 use Rattle.std.proofs.lemmas.List.{take-append-drop, take_more}
 use Rattle.std.proofs.Math.Seq.{take-append_seam}
-use Rattle.std.proofs.lemmas.List.Elements.{filter-append, All-contains, Contains-get_or}
+use Rattle.std.proofs.lemmas.List.Elements.{filter-append, All-contains}
 use Rattle.std.proofs.lemmas.List.Sorted.{sorted_far}
 use Rattle.desk_types.specs.AdValue.{AdValue, IsInRange}
 use Rattle.desk_types.specs.Order.{better}
 use Rattle.desk_types.specs.Page.{entrants}
 use Rattle.desk_types.proofs.OrderLemmas.{better-irreflexive, better-weak_order, same_if_neither}
-use Rattle.desk_types.proofs.Members.{Has, Contains-from_Has, Has-from_Contains, Has-filter, Has-filtered, SameCounts, SameCounts-refl, SameCounts-sym, SameCounts-trans, SameCounts-cons, SameCounts-swap, SameCounts-Has, SameCounts-from_IsPermutation}
-use Rattle.desk_types.proofs.Ranking.{IsAbove, IsRanked, IsRanking}
-use Rattle.desk_types.proofs.Accounts.{IsOfOther, AreApart, better_one, right_one}
+use Rattle.desk_types.proofs.Members.{Has, Contains-from_Has, Has-filter, Has-filtered, SameCounts, SameCounts-refl, SameCounts-sym, SameCounts-trans, SameCounts-cons, SameCounts-swap, SameCounts-Has, SameCounts-from_IsPermutation}
+use Rattle.desk_types.proofs.Ranking.{IsRanked, IsRanking}
+use Rattle.desk_types.proofs.Accounts.{AreApart, better_one, right_one}
 use Rattle.desk_types.proofs.Entrants.{list_any-Has, list_any-none, list_any-passing, entrant_of, entrant_from, best_beats, best_from, entrants-apart}
 use Rattle.rank_core.specs.Firsts.{is_other, firsts}
 

@@ -1,2 +1,3 @@
 mod FirstsLemmas
 mod NextsLemmas
+mod RankedLemmas

@@ -2,15 +2,15 @@
 
 ghost use Rattle.desk_types.specs.AdValue.{IsInRange};
 ghost use Rattle.desk_types.specs.Order.{better as is_better};
-ghost use Rattle.desk_types.specs.Page.{entrants};
+ghost use Rattle.desk_types.specs.Page.{AreOfDifferentAccounts, entrants};
 ghost use Rattle.desk_types.specs.declared.limits.TheConstants.{PLACES_MAX};
 ghost use Rattle.rank_core.specs.Firsts.{firsts};
 ghost use Rattle.rank_core.specs.Nexts.{each_with_next};
-ghost use Rattle.rank_core.specs.Ranked.{ranked};
+ghost use Rattle.rank_core.specs.Ranked.{IsRankedAmong, ranked};
 ghost use Rattle.std.specs.List.{list_any};
 ghost use Rattle.std.specs.List.Sorted.{IsPermutation, IsSortedBy};
 ghost use Rattle.std.specs.Ordering.{is_lt};
-ghost use Rattle.std.specs.Prelude.{◌≡◌, ℕ, ◌≤◌, ◌==◌, take, All, IfOk};
+ghost use Rattle.std.specs.Prelude.{◌≡◌, ℕ, ◌≤◌, ◌==◌, take, All, IfOk, OnOk};
 
 use arrayvec::ArrayVec;
 use desk_types::limits::{BID_MAX, QUALITY_MAX};
@@ -34,6 +34,8 @@ pub struct Ranked {
 pub fn page_of(alloc: Global, ads: &[Ad], places: u64) -> Result<ArrayVec<Ranked, 8>, AllocError>
     requires places { (1 ≤ places) × (places ≤ PLACES_MAX) }
     ensures page { IfOk result (λ page. page.items ≡ ranked (entrants ads.now) places) }
+    ensures each { IfOk result (λ page. All (IsRankedAmong ads.now) page.items) }
+    ensures different_accounts { OnOk result (AreOfDifferentAccounts (entrants ads.now)) }
 {
     let places = places as usize;
     let sorted = best_first(alloc, ads)?;

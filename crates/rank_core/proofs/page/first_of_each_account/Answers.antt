@@ -1,4 +1,4 @@
-use Rattle.std.proofs.Common.{◌≡◌, ◌==◌, ◌∙◌, ap, sym, false, true, rules, arith, length-append}
+use Rattle.std.proofs.Common.{◌≡◌, ◌==◌, ◌∙◌, ap, sym, rules, arith}
 use Rattle.std.specs.List.{list_any}
 use Rattle.rank_core.specs.Firsts.{firsts}
 use Rattle.rank_core.proofs.FirstsLemmas.{is_of, take-firsts, firsts_again, firsts_new}

@@ -1,8 +1,6 @@
-use Rattle.std.proofs.Common.{◌≡◌, ◌+◌, ◌-◌, ◌++◌, ◌∙◌, List, [], ◌∷◌, Option, ap, sym, take, arith}
+use Rattle.std.proofs.Common.{◌≡◌, ◌+◌, ◌-◌, ◌++◌, ◌∙◌, [], ◌∷◌, ap, sym, take, arith}
 use Rattle.std.specs.List.{slice_get}
-use Rattle.desk_types.specs.AdValue.{AdValue}
 use Rattle.rank_core.specs.Nexts.{each_with_next}
-use Rattle.rank_core.specs.declared.page.Ranked.{Ranked}
 use Rattle.rank_core.proofs.NextsLemmas.{with_next, each_with_next_more}
 use Rattle.rank_core.proofs.page.with_next_below.Goals as goal
 

@@ -4,3 +4,5 @@ pub mod Writing
 pub mod Lines
 pub mod Reader
 pub mod NextLine
+pub mod SourceInMemory
+pub mod SinkInMemory

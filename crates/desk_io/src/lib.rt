@@ -5,14 +5,20 @@
 #![tactic(auto)]
 
 mod line_reader;
+mod mem_sink;
+mod mem_source;
 mod out_buf;
 mod sink;
 mod source;
+mod std_ends;
 
 pub use line_reader::{LineGot, LineReader};
+pub use mem_sink::MemSink;
+pub use mem_source::MemSource;
 pub use out_buf::{OutBuf, WriteFault};
 pub use sink::{Put, Sink};
 pub use source::{Got, Source};
+pub use std_ends::{StdSink, StdSource};
 
 /// Want of memory.
 pub type NoMemory = std::alloc::AllocError;

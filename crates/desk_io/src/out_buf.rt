@@ -1,12 +1,15 @@
 //! Bytes on their way out.
 
-ghost use Rattle.std.specs.Prelude.{◌≡◌, ◌≤◌, List, ℕ, [], ◌++◌, IfOk, OnOk, OnErr};
+ghost use Rattle.std.specs.Prelude.{◌≡◌, ◌+◌, ◌≤◌, List, ℕ, [], ◌++◌, length, IfOk, OnOk, OnErr};
 ghost use Rattle.desk_io.specs.Faults.{Rose};
 ghost use Rattle.desk_io.specs.Writing.{Appends, IsProperPrefix};
 
-use crate::{NoMemory, Sink};
+use crate::{NoMemory, Put, Sink};
 use std::alloc::Global;
 use std::marker::Model;
+
+// How many bytes may wait.
+const ROOM: usize = 16_384;
 
 /// A write to the sink failed.
 #[derive(Clone, Copy, Debug, PartialEq, Eq)]
@@ -21,11 +24,14 @@ pub struct OutBuf {
 }
 
 impl Model for OutBuf {
-    ghost use Rattle.std.specs.Prelude.{List, ℕ};
+    ghost use Rattle.std.specs.Prelude.{List, ℕ, ◌≤◌, vec_len, vec_capacity};
+    ghost use Rattle.desk_io.specs.declared.out_buf.TheConstants.{ROOM};
 
     ghost Value = { List ℕ };
 
     ghost view = { λ b. b.waiting.items };
+
+    ghost invariant = { λ b. (vec_len b.waiting ≤ ROOM) × (ROOM ≤ vec_capacity b.waiting) };
 }
 
 impl OutBuf {
@@ -34,7 +40,7 @@ impl OutBuf {
         ensures { IfOk result (λ out. out ≡ []) }
     {
         Ok(OutBuf {
-            waiting: Vec::with_capacity(alloc, 16_384)?,
+            waiting: Vec::with_capacity(alloc, ROOM)?,
         })
     }
 
@@ -47,9 +53,16 @@ impl OutBuf {
         ensures faults { T.write_faults sink.old ≤ T.write_faults sink.new }
         ensures cause { OnErr result (Rose (T.write_faults sink.old) (T.write_faults sink.new)) }
     {
-        let _ = sink;
-        let _ = bytes;
-        Ok(())
+        if bytes.len() <= ROOM - self.waiting.len() {
+            self.hold(bytes);
+            return Ok(());
+        }
+        self.flush(sink)?;
+        if bytes.len() <= ROOM {
+            self.hold(bytes);
+            return Ok(());
+        }
+        write_all(sink, bytes)
     }
 
     /// Writes all that waits to the sink.
@@ -61,7 +74,36 @@ impl OutBuf {
         ensures faults { T.write_faults sink.old ≤ T.write_faults sink.new }
         ensures cause { OnErr result (Rose (T.write_faults sink.old) (T.write_faults sink.new)) }
     {
-        let _ = sink;
+        write_all(sink, &self.waiting)?;
+        self.waiting.clear();
         Ok(())
     }
+
+    // Puts bytes for which there is room behind those that wait.
+    fn hold(&mut self, bytes: &[u8])
+        requires { length self.old + length bytes.now ≤ ROOM }
+        ensures { self.new ≡ self.old ++ bytes.now }
+    {
+        match self.waiting.extend_from_slice(bytes) {
+            Ok(()) => {}
+            Err(_) => unreachable!(),
+        }
+    }
+}
+
+// Writes all of the bytes to the sink.
+fn write_all<T: Sink>(sink: &mut T, bytes: &[u8]) -> Result<(), WriteFault>
+    ensures written { OnOk result (Appends (T.written sink.old) (T.written sink.new) (T.taken sink.old) (T.taken sink.new) bytes.now) }
+    ensures fault { OnErr result ((sent : List ℕ) × Appends (T.written sink.old) (T.written sink.new) (T.taken sink.old) (T.taken sink.new) sent × IsProperPrefix sent bytes.now) }
+    ensures faults { T.write_faults sink.old ≤ T.write_faults sink.new }
+    ensures cause { OnErr result (Rose (T.write_faults sink.old) (T.write_faults sink.new)) }
+{
+    let mut rest = bytes;
+    while !rest.is_empty() {
+        match sink.write(rest) {
+            Put::Took(count) => rest = rest.split_at(count as usize).1,
+            Put::Failed => return Err(WriteFault),
+        }
+    }
+    Ok(())
 }

@@ -14,7 +14,7 @@ pub enum Put {
 
 /// A sink of bytes, which may tell what was written and how many bytes it took, and counts its faults.
 pub trait Sink {
-    ghost use Rattle.std.specs.Prelude.{Option, List, ℕ};
+    ghost use Rattle.std.specs.Prelude.{Option, List, ℕ, ◌<◌, ◌^◌, IfSome};
 
     ghost written: { Self → Option (List ℕ) };
 
@@ -31,4 +31,7 @@ pub trait Sink {
         ensures bytes { Writes (written self.old) (written self.new) (taken self.old) (taken self.new) result bytes.now }
         ensures faults { write_faults self.old ≤ write_faults self.new }
         ensures cause { WriteCause (write_faults self.old) (write_faults self.new) result };
+
+    // the number of bytes taken is one of 64 bits
+    ghost taken_fits: { (s : Self) → IfSome (taken s) (λ n. n < 2 ^ 64) };
 }

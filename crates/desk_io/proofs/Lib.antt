@@ -1,0 +1,3 @@
+mod Moved
+pub mod Appending
+mod Sending

@@ -1,0 +1,87 @@
+//! The reader and the writer of the real world, of which nothing is told: the trusted edge.
+
+ghost use Rattle.std.specs.Prelude.{◌≡◌};
+
+use crate::{Got, Put, Sink, Source};
+use std::io::{Read, Write};
+
+/// A source over any reader of std. It tells nothing of what is left, and counts the reads that failed.
+#[derive(Drop)]
+pub struct StdSource<R: Read> {
+    reader: R,
+    failures: u64,
+}
+
+impl<R: Read> StdSource<R> {
+    /// A source over a reader, with no failure so far.
+    pub fn new(reader: R) -> StdSource<R>
+        ensures { result ≡ record { reader = reader; failures = 0 } }
+    {
+        StdSource {
+            reader,
+            failures: 0,
+        }
+    }
+}
+
+impl<R: Read> Source for StdSource<R> {
+    ghost use Rattle.std.specs.Prelude.{None};
+
+    ghost left = { λ s. None };
+
+    ghost read_faults = { λ s. s.failures };
+
+    /// Reads once. A read of no byte is the end.
+    fn read(&mut self, room: &mut [u8]) -> Got {
+        match self.reader.read(room) {
+            Ok(0) => Got::End,
+            Ok(count) => Got::Bytes(count as u64),
+            Err(_) => {
+                self.failures = self.failures.saturating_add(1);
+                Got::Failed
+            }
+        }
+    }
+}
+
+/// A sink over any writer of std. It tells nothing of what was written, and counts the writes that failed.
+#[derive(Drop)]
+pub struct StdSink<W: Write> {
+    writer: W,
+    failures: u64,
+}
+
+impl<W: Write> StdSink<W> {
+    /// A sink over a writer, with no failure so far.
+    pub fn new(writer: W) -> StdSink<W>
+        ensures { result ≡ record { writer = writer; failures = 0 } }
+    {
+        StdSink {
+            writer,
+            failures: 0,
+        }
+    }
+}
+
+impl<W: Write> Sink for StdSink<W> {
+    ghost use Rattle.std.specs.Prelude.{None};
+
+    ghost written = { λ s. None };
+
+    ghost taken = { λ s. None };
+
+    ghost write_faults = { λ s. s.failures };
+
+    ghost taken_fits = { λ s. tt };
+
+    /// Writes once. A write that takes no byte is a failure.
+    fn write(&mut self, bytes: &[u8]) -> Put {
+        match self.writer.write(bytes) {
+            Ok(0) | Err(_) => {
+                self.failures = self.failures.saturating_add(1);
+                Put::Failed
+            }
+            Ok(count) => Put::Took(count as u64),
+        }
+    }
+}

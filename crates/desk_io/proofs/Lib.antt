@@ -1,3 +1,5 @@
 mod Moved
 pub mod Appending
 mod Sending
+pub mod LineLaws
+mod Filling

@@ -3,6 +3,7 @@ pub mod Reading
 pub mod Writing
 pub mod Lines
 pub mod Reader
+pub mod WindowValue
 pub mod NextLine
 pub mod SourceInMemory
 pub mod SinkInMemory

@@ -4,6 +4,7 @@
 //! What the bytes mean is left to the crates above.
 #![tactic(auto)]
 
+mod line_laws;
 mod line_reader;
 mod mem_sink;
 mod mem_source;
@@ -11,7 +12,9 @@ mod out_buf;
 mod sink;
 mod source;
 mod std_ends;
+mod window;
 
+pub use line_laws::lines_go_on_behind_the_first;
 pub use line_reader::{LineGot, LineReader};
 pub use mem_sink::MemSink;
 pub use mem_source::MemSource;

@@ -1,11 +1,7 @@
 -- A read behind the bytes that a window holds.
-use Rattle.std.proofs.Common.{◌≡◌, ℕ, ◌+◌, ◌-◌, ◌≤◌, List, [], ◌++◌, length, take, drop, refl, sym, ap, ◌∙◌, append-nil, length-append, length-take-le, take_at, drop-drop, arith}
+use Rattle.std.proofs.Common.{◌≡◌, ℕ, ◌+◌, ◌-◌, ◌≤◌, List, [], ◌++◌, length, take, drop, sym, ap, ◌∙◌, append-nil, length-append, length-take-le, take_at, drop-drop, arith}
 use Rattle.std.proofs.lemmas.List.{drop_all, drop-append-le}
 use Rattle.std.proofs.Math.Seq.{take-append-add}
-use Rattle.desk_io.specs.declared.source.Got.{Got}
-use Rattle.desk_io.specs.declared.source.Got.TheVariants.{Bytes, End, Failed}
-use Rattle.desk_io.specs.Reading.{ReadsWithin}
-use Rattle.desk_io.specs.WindowValue.{bytes_got}
 
 -- a buffer after the part from `end` on was written: what stood before, then what was written there
 written : (items room : List ℕ) (end len : ℕ) → end ≤ length items → len ≡ length items → length room ≡ length items - end → take len (take end items ++ (room ++ drop (length items - end) (drop end items)) ++ drop (length (take end items ++ (room ++ drop (length items - end) (drop end items)))) items) ≡ take end items ++ room

@@ -1,5 +1,5 @@
 -- What a read of a source in memory moves.
-use Rattle.std.proofs.Common.{◌≡◌, ℕ, ◌+◌, ◌≤◌, List, ◌++◌, length, take, drop, refl, sym, ap, ◌∙◌, drop-drop, take-append-drop}
+use Rattle.std.proofs.Common.{◌≡◌, ℕ, ◌+◌, List, ◌++◌, take, drop, sym, drop-drop, take-append-drop}
 
 -- the bytes that were copied to the front of the room, and those that are still left, are what was left before
 pub moved : (items room : List ℕ) (taken n : ℕ) → take n room ≡ take n (drop taken items) → drop taken items ≡ take n room ++ drop (taken + n) items

@@ -1,5 +1,5 @@
 -- Some bytes, as far as they were sent to a sink.
-use Rattle.std.proofs.Common.{◌≡◌, ◌≢◌, ℕ, ◌<◌, ◌^◌, List, [], ◌++◌, length, take, drop, Option, IfSome, refl, sym, ap, subst, ◌∙◌, append_assoc, append-nil, take-append-drop, arith}
+use Rattle.std.proofs.Common.{◌≡◌, ℕ, ◌<◌, ◌^◌, List, [], ◌++◌, length, take, drop, Option, IfSome, refl, sym, ap, subst, ◌∙◌, append_assoc, append-nil, take-append-drop, arith}
 use Rattle.desk_io.specs.Writing.{Appends, IsProperPrefix}
 use Rattle.desk_io.proofs.Appending.{Appends_none, Appends_more, IsProperPrefix_longer, IsProperPrefix_behind}
 

@@ -2,7 +2,7 @@
 use Rattle.std.specs.Prelude.{◌≡◌, ℕ, ◌<◌, ◌≤◌, List, [], ◌++◌, length, Option, IfSome}
 use Rattle.std.specs.Option.{option_map}
 use Rattle.desk_io.specs.Faults.{Rose}
-use Rattle.desk_io.specs.Lines.{Line, first_line, after_first_line}
+use Rattle.desk_io.specs.Lines.{first_line, after_first_line}
 use Rattle.desk_io.specs.Reader.{ReaderValue}
 use Rattle.desk_io.specs.declared.line_reader.LineGot.{LineGot}
 use Rattle.desk_io.specs.declared.line_reader.LineGot.TheVariants.{Line as GotLine, End, TooLong, ReadFault}
@@ -30,3 +30,17 @@ LineCause before now GotLine = Unit {0}
 LineCause before now End = Unit {0}
 LineCause before now TooLong = Unit {0}
 LineCause before now ReadFault = Rose before now
+
+-- a line has at most `max` bytes, whatever the source tells; another answer leaves no line
+abbrev pub LineFits : ℕ → LineGot → List ℕ → Type 0
+LineFits max GotLine text = length text ≤ max
+LineFits max End text = text ≡ []
+LineFits max TooLong text = text ≡ []
+LineFits max ReadFault text = text ≡ []
+
+-- what bytes that end without a line feed answer: the end where there are none
+abbrev pub TakesRest : List ℕ → LineGot → Type 0
+TakesRest held GotLine = 0 < length held
+TakesRest held End = held ≡ []
+TakesRest held TooLong = ⊥
+TakesRest held ReadFault = ⊥

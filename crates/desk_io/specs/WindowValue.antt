@@ -1,5 +1,5 @@
 -- A window on the bytes of a source as contracts see it.
-use Rattle.std.specs.Prelude.{◌≡◌, ℕ, ◌≤◌, List, ◌++◌, length, take, Option}
+use Rattle.std.specs.Prelude.{◌≡◌, ℕ, List, ◌++◌, length, take, Option}
 use Rattle.desk_io.specs.Reading.{Reads, ReadsWithin}
 use Rattle.desk_io.specs.declared.source.Got.{Got}
 use Rattle.desk_io.specs.declared.source.Got.TheVariants.{Bytes, End, Failed}

@@ -1,4 +1,4 @@
-use Rattle.std.proofs.Common.{rules, arith}
+use Rattle.std.proofs.Common.{arith}
 use Rattle.desk_io.proofs.Sending.{Sending_more}
 use Rattle.desk_io.proofs.out_buf.write_all.Goals as goal
 

@@ -1,4 +1,4 @@
-use Rattle.std.proofs.Common.{◌≡◌, ◌++◌, ◌∙◌, List, ℕ, Result, Ok, Err, OnErr, ap, append-nil}
+use Rattle.std.proofs.Common.{◌++◌, ◌∙◌, List, ℕ, Result, Ok, Err, OnErr, ap, append-nil}
 use Rattle.std.proofs.lemmas.Result.{on_ok_weaker, on_err_weaker}
 use Rattle.desk_io.proofs.Appending.{Appends_more}
 use Rattle.desk_io.proofs.Sending.{BrokenOff_longer, BrokenOff_behind}

@@ -1,4 +1,4 @@
-use Rattle.std.proofs.Common.{◌≡◌, ◌+◌, ◌-◌, ◌≤◌, ◌∙◌, ◌++◌, ℕ, List, rules, arith, ap, sym, take, drop, length}
+use Rattle.std.proofs.Common.{◌≡◌, ◌-◌, ◌≤◌, ◌∙◌, ◌++◌, ℕ, List, rules, arith, ap, take, drop, length}
 use Rattle.desk_io.specs.WindowValue.{WindowValue}
 use Rattle.desk_io.proofs.Filling.{filled}
 use Rattle.desk_io.proofs.window.Window.take_in.Goals as goal

@@ -7,3 +7,4 @@ pub mod WindowValue
 pub mod NextLine
 pub mod SourceInMemory
 pub mod SinkInMemory
+pub mod StdEnds

@@ -25,3 +25,6 @@ pub use std_ends::{StdSink, StdSource};
 
 /// Want of memory.
 pub type NoMemory = std::alloc::AllocError;
+
+#[cfg(test)]
+mod tests;

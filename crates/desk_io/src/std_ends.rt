@@ -1,6 +1,7 @@
 //! The reader and the writer of the real world, of which nothing is told: the trusted edge.
 
-ghost use Rattle.std.specs.Prelude.{◌≡◌};
+ghost use Rattle.std.specs.Prelude.{◌≡◌, ◌≤◌, length, IfSome};
+ghost use Rattle.desk_io.specs.StdEnds.{read_failures, write_failures};
 
 use crate::{Got, Put, Sink, Source};
 use std::io::{Read, Write};
@@ -15,7 +16,7 @@ pub struct StdSource<R: Read> {
 impl<R: Read> StdSource<R> {
     /// A source over a reader, with no failure so far.
     pub fn new(reader: R) -> StdSource<R>
-        ensures { result ≡ record { reader = reader; failures = 0 } }
+        ensures { read_failures result ≡ 0 }
     {
         StdSource {
             reader,
@@ -26,10 +27,11 @@ impl<R: Read> StdSource<R> {
 
 impl<R: Read> Source for StdSource<R> {
     ghost use Rattle.std.specs.Prelude.{None};
+    ghost use Rattle.desk_io.specs.StdEnds.{read_failures};
 
-    ghost left = { λ s. None };
+    ghost left = { λ _. None };
 
-    ghost read_faults = { λ s. s.failures };
+    ghost read_faults = { read_failures };
 
     /// Reads once. A read of no byte is the end.
     fn read(&mut self, room: &mut [u8]) -> Got {
@@ -54,7 +56,7 @@ pub struct StdSink<W: Write> {
 impl<W: Write> StdSink<W> {
     /// A sink over a writer, with no failure so far.
     pub fn new(writer: W) -> StdSink<W>
-        ensures { result ≡ record { writer = writer; failures = 0 } }
+        ensures { write_failures result ≡ 0 }
     {
         StdSink {
             writer,
@@ -65,23 +67,33 @@ impl<W: Write> StdSink<W> {
 
 impl<W: Write> Sink for StdSink<W> {
     ghost use Rattle.std.specs.Prelude.{None};
+    ghost use Rattle.desk_io.specs.StdEnds.{write_failures};
 
-    ghost written = { λ s. None };
+    ghost written = { λ _. None };
 
-    ghost taken = { λ s. None };
+    ghost taken = { λ _. None };
 
-    ghost write_faults = { λ s. s.failures };
+    ghost write_faults = { write_failures };
 
-    ghost taken_fits = { λ s. tt };
+    ghost taken_fits = { λ _. tt };
 
-    /// Writes once. A write that takes no byte is a failure.
+    /// Writes once and flushes. A write that takes no byte is a failure.
     fn write(&mut self, bytes: &[u8]) -> Put {
-        match self.writer.write(bytes) {
-            Ok(0) | Err(_) => {
+        match write_through(&mut self.writer, bytes) {
+            Some(count) => Put::Took(count as u64),
+            None => {
                 self.failures = self.failures.saturating_add(1);
                 Put::Failed
             }
-            Ok(count) => Put::Took(count as u64),
         }
     }
+}
+
+// How many bytes the writer took and passed on, at least one.
+fn write_through<W: Write>(writer: &mut W, bytes: &[u8]) -> Option<usize>
+    ensures { IfSome result (λ count. (1 ≤ count) × (count ≤ length bytes.now)) }
+{
+    let count = writer.write(bytes).ok()?;
+    writer.flush().ok()?;
+    if count == 0 { None } else { Some(count) }
 }

@@ -7,12 +7,14 @@ ghost use Rattle.desk_io.specs.Writing.{Appends, IsProperPrefix};
 use crate::{NoMemory, Put, Sink};
 use std::alloc::Global;
 use std::marker::Model;
+use thiserror::Error;
 
 // How many bytes may wait.
 const ROOM: usize = 16_384;
 
 /// A write to the sink failed.
-#[derive(Clone, Copy, Debug, PartialEq, Eq)]
+#[derive(Clone, Copy, Debug, PartialEq, Eq, Error)]
+#[error("a write failed")]
 pub struct WriteFault;
 
 /// A buffer of 16,384 bytes before a sink, seen as the bytes that wait in it. It holds no sink.

@@ -1,0 +1,63 @@
+-- Where the first line feed stands in a list, in a part of it, and in a longer one.
+use Rattle.std.proofs.Common.{◌≡◌, ℕ, ◌+◌, ◌-◌, ◌<◌, ◌≤◌, true, false, not, List, ◌++◌, length, drop, get_or, Some, None, sym, ap, ◌∙◌, ⊎_elim, length-drop, get_or-drop, arith}
+use Rattle.std.specs.List.{position_or_len}
+use Rattle.std.proofs.lemmas.Bool.{cases_lt, eq-eqb, ne_eqb, cond-true, cond-false, false_from_ne_true}
+use Rattle.std.proofs.lemmas.List.Folds.{prefix_len-append}
+use Rattle.std.proofs.lemmas.List.Sums.{prefix_len-le-length, fails_before_first, passes_at_first, position_or_len_is}
+use Rattle.memchr.specs.Find.{IsFirstByte, is_byte}
+use Rattle.desk_io.specs.Lines.{is_line_feed}
+
+pub feed-within : (bytes : List ℕ) → position_or_len is_line_feed bytes ≤ length bytes
+feed-within bytes = prefix_len-le-length (λ byte. not (is_line_feed byte)) bytes
+
+-- what a search for the byte answers
+pub feed_found : (bytes : List ℕ) (place : ℕ) → IsFirstByte (is_byte 10) bytes (Some place) → place ≡ position_or_len is_line_feed bytes
+feed_found bytes place found =
+    let below = found.0 in
+    sym (position_or_len_is is_line_feed bytes place 0 (omega (arith, below.high))
+    (λ k before. false_from_ne_true (is_line_feed (get_or bytes k 0)) (λ is. below.before k (omega arith) before is))
+    (λ inside. found.1))
+
+pub feed_none : (bytes : List ℕ) → IsFirstByte (is_byte 10) bytes None → length bytes ≡ position_or_len is_line_feed bytes
+feed_none bytes none =
+    sym (position_or_len_is is_line_feed bytes (length bytes) 0 (omega arith)
+    (λ k before. false_from_ne_true (is_line_feed (get_or bytes k 0)) (λ is. none k (omega arith) before is))
+    (λ inside. absurd (omega arith)))
+
+-- where no line feed stands among the first bytes, those behind them are searched alone
+pub feed_behind : (bytes : List ℕ) (searched : ℕ) → searched ≤ position_or_len is_line_feed bytes → searched + position_or_len is_line_feed (drop searched bytes) ≡ position_or_len is_line_feed bytes
+feed_behind bytes searched low =
+    let rest = drop searched bytes in
+    let behind = position_or_len is_line_feed rest in
+    let inside = feed-within bytes in
+    let rest_inside = feed-within rest in
+    let rest_length : length rest ≡ length bytes - searched = length-drop searched bytes in
+    let none_before : (k : ℕ) → k < searched + behind → is_line_feed (get_or bytes k 0) ≡ false = λ k before. ⊎_elim
+    (λ early. fails_before_first is_line_feed bytes k 0 (omega arith))
+    (λ late.
+    let here : searched + (k - searched) ≡ k = omega arith in
+    let fails : is_line_feed (get_or rest (k - searched) 0) ≡ false = fails_before_first is_line_feed rest (k - searched) 0 (omega arith) in
+    let same : get_or rest (k - searched) 0 ≡ get_or bytes (searched + (k - searched)) 0 = get_or-drop searched bytes (k - searched) 0 in
+    sym (ap (λ (j : ℕ). is_line_feed (get_or bytes j 0)) here) ∙ sym (ap is_line_feed same) ∙ fails)
+    (cases_lt k searched) in
+    let at_end : searched + behind < length bytes → is_line_feed (get_or bytes (searched + behind) 0) ≡ true = λ found.
+    sym (ap is_line_feed (get_or-drop searched bytes behind 0)) ∙ passes_at_first is_line_feed rest 0 (omega arith) in
+    sym (position_or_len_is is_line_feed bytes (searched + behind) 0 (omega arith) none_before at_end)
+
+-- more bytes do not move the first line feed
+pub feed_in_front : (bytes more : List ℕ) → position_or_len is_line_feed bytes < length bytes → position_or_len is_line_feed (bytes ++ more) ≡ position_or_len is_line_feed bytes
+feed_in_front bytes more found =
+    let other : position_or_len is_line_feed bytes ≡ length bytes → ⊥ = λ same. omega arith in
+    prefix_len-append (λ byte. not (is_line_feed byte)) bytes more ∙ cond-false _ _ _ (ne_eqb (position_or_len is_line_feed bytes) (length bytes) other)
+
+-- nor do they bring it forward
+pub feed_later : (bytes more : List ℕ) → position_or_len is_line_feed bytes ≤ position_or_len is_line_feed (bytes ++ more)
+feed_later bytes more = ⊎_elim
+    (λ found. let same = feed_in_front bytes more found in omega arith)
+    (λ none.
+    let inside = feed-within bytes in
+    let all : position_or_len is_line_feed bytes ≡ length bytes = omega arith in
+    let later : position_or_len is_line_feed (bytes ++ more) ≡ length bytes + position_or_len is_line_feed more =
+    prefix_len-append (λ byte. not (is_line_feed byte)) bytes more ∙ cond-true _ _ _ (eq-eqb (position_or_len is_line_feed bytes) (length bytes) all) in
+    omega arith)
+    (cases_lt (position_or_len is_line_feed bytes) (length bytes))

@@ -1,0 +1,14 @@
+use Rattle.std.proofs.Common.{◌≡◌, ◌+◌, ◌-◌, ◌≤◌, [], length}
+use Rattle.desk_io.specs.NextLine.{ahead}
+use Rattle.desk_io.proofs.line_reader.LineReader.next.Given as goal
+
+abbrev pub invariant-loop-size : goal.invariant-loop-size
+invariant-loop-size g l = record {
+  max : l.self.max ≡ l.fn.self.max;
+  line : l.self.line ≡ [];
+  ahead : ahead l.self (g.S.Source.left l.source) ≡ ahead l.fn.self (g.S.Source.left l.fn.source);
+  faults : g.S.Source.read_faults l.fn.source ≤ g.S.Source.read_faults l.source;
+}
+
+abbrev pub decreases-loop-size : goal.decreases-loop-size
+decreases-loop-size g l = l.self.max + 1 - length l.self.held

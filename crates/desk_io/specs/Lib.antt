@@ -1,0 +1,10 @@
+pub mod Faults
+pub mod Reading
+pub mod Writing
+pub mod Lines
+pub mod Reader
+pub mod WindowValue
+pub mod NextLine
+pub mod SourceInMemory
+pub mod SinkInMemory
+pub mod StdEnds

@@ -1,0 +1,34 @@
+//! Where bytes come from.
+
+ghost use Rattle.std.specs.Prelude.{◌≡◌, ◌<◌, ◌≤◌, length};
+ghost use Rattle.desk_io.specs.Reading.{Reads, ReadsWithin, ReadCause};
+
+/// What a read answers.
+#[derive(Clone, Copy, Debug, PartialEq, Eq)]
+pub enum Got {
+    /// So many bytes came, at least one.
+    Bytes(u64),
+    /// No byte is left.
+    End,
+    /// The read failed; the count of faults rose.
+    Failed,
+}
+
+/// A source of bytes, which may tell what it has left and counts its faults.
+pub trait Source {
+    ghost use Rattle.std.specs.Prelude.{Option, List, ℕ};
+
+    ghost left: { Self → Option (List ℕ) };
+
+    ghost read_faults: { Self → ℕ };
+
+    /// Moves the first bytes that are left into the room, which is not empty.
+    ///
+    /// `End` comes only where nothing is left, and `Failed` only where the count of faults rose; both take nothing.
+    fn read(&mut self, room: &mut [u8]) -> Got
+        requires { 0 < length room.old }
+        ensures within { ReadsWithin result (length room.old) }
+        ensures bytes { Reads (left self.old) (left self.new) result room.new }
+        ensures faults { read_faults self.old ≤ read_faults self.new }
+        ensures cause { ReadCause (read_faults self.old) (read_faults self.new) result };
+}

@@ -1,0 +1,134 @@
+//! A window on the bytes of a source: the bytes read ahead, and the last line cut from them.
+
+ghost use Rattle.std.specs.Prelude.{◌≡◌, ◌<◌, ◌≤◌, [], ◌++◌, length, take, drop, IfOk};
+ghost use Rattle.desk_io.specs.Reading.{ReadCause};
+ghost use Rattle.desk_io.specs.WindowValue.{Fills, bytes_got};
+
+use crate::{Got, NoMemory, Source};
+use std::alloc::Global;
+use std::marker::Model;
+
+// A buffer of a fixed size: the bytes from `start` to `end` are read ahead, and the last line stands before them.
+#[derive(Drop)]
+pub(crate) struct Window {
+    bytes: Vec<u8>,
+    line_start: usize,
+    line_end: usize,
+    start: usize,
+    end: usize,
+}
+
+impl Model for Window {
+    ghost use Rattle.std.specs.Prelude.{◌-◌, ◌≤◌, take, drop, vec_len};
+    ghost use Rattle.desk_io.specs.WindowValue.{WindowValue};
+
+    ghost Value = { WindowValue };
+
+    ghost view = { λ w. record { line = drop w.line_start (take w.line_end w.bytes.items); held = drop w.start (take w.end w.bytes.items); behind = vec_len w.bytes - w.end; size = vec_len w.bytes } };
+
+    ghost invariant = { λ w. (w.line_start ≤ w.line_end) × (w.line_end ≤ vec_len w.bytes) × (w.start ≤ w.end) × (w.end ≤ vec_len w.bytes) };
+}
+
+impl Window {
+    // An empty window for `size` bytes.
+    pub(crate) fn new(alloc: Global, size: usize) -> Result<Window, NoMemory>
+        ensures { IfOk result (λ window. window ≡ record { line = []; held = []; behind = size; size = size }) }
+    {
+        Ok(Window {
+            bytes: vec![in alloc; 0; size]?,
+            line_start: 0,
+            line_end: 0,
+            start: 0,
+            end: 0,
+        })
+    }
+
+    pub(crate) fn line(&self) -> &[u8]
+        ensures { result.now ≡ self.now.line }
+    {
+        let before_end = self.bytes.as_slice().split_at(self.line_end).0;
+        before_end.split_at(self.line_start).1
+    }
+
+    pub(crate) fn held(&self) -> &[u8]
+        ensures { result.now ≡ self.now.held }
+    {
+        let before_end = self.bytes.as_slice().split_at(self.end).0;
+        before_end.split_at(self.start).1
+    }
+
+    // Makes the first `text` bytes held the line, and passes over the first `through` of them.
+    pub(crate) fn cut(&mut self, text: usize, through: usize)
+        requires text { text ≤ length self.old.held }
+        requires through { through ≤ length self.old.held }
+        ensures line { self.new.line ≡ take text self.old.held }
+        ensures held { self.new.held ≡ drop through self.old.held }
+        ensures size { self.new.size ≡ self.old.size }
+    {
+        self.line_start = self.start;
+        self.line_end = self.start + text;
+        self.start += through;
+    }
+
+    // Leaves no line.
+    pub(crate) fn forget_line(&mut self)
+        ensures { self.new ≡ record self.old { line = [] } }
+    {
+        self.line_start = 0;
+        self.line_end = 0;
+    }
+
+    // Leaves room behind the bytes held; they are moved to the front only where there is none. The line is lost.
+    fn make_room(&mut self)
+        requires { length self.old.held < self.old.size }
+        ensures held { self.new.held ≡ self.old.held }
+        ensures size { self.new.size ≡ self.old.size }
+        ensures behind { 0 < self.new.behind }
+    {
+        if self.start < self.end && self.end < self.bytes.len() {
+            return;
+        }
+        self.bytes.copy_within(self.start..self.end, 0);
+        self.end -= self.start;
+        self.start = 0;
+    }
+
+    // Reads once from the source, behind the bytes held, and leaves no line.
+    fn take_in<S: Source>(&mut self, source: &mut S) -> Got
+        requires { 0 < self.old.behind }
+        ensures line { self.new.line ≡ [] }
+        ensures size { self.new.size ≡ self.old.size }
+        ensures bytes { Fills (S.left source.old) (S.left source.new) self.old.held self.new.held result }
+        ensures faults { S.read_faults source.old ≤ S.read_faults source.new }
+        ensures cause { ReadCause (S.read_faults source.old) (S.read_faults source.new) result }
+    {
+        self.line_start = 0;
+        self.line_end = 0;
+        let got = source.read(&mut self.bytes[self.end..]);
+        self.end += count_of(got);
+        got
+    }
+
+    // Makes room and reads once; no line is left.
+    pub(crate) fn fill<S: Source>(&mut self, source: &mut S) -> Got
+        requires { length self.old.held < self.old.size }
+        ensures line { self.new.line ≡ [] }
+        ensures size { self.new.size ≡ self.old.size }
+        ensures bytes { Fills (S.left source.old) (S.left source.new) self.old.held self.new.held result }
+        ensures faults { S.read_faults source.old ≤ S.read_faults source.new }
+        ensures cause { ReadCause (S.read_faults source.old) (S.read_faults source.new) result }
+    {
+        self.make_room();
+        self.take_in(source)
+    }
+}
+
+// How many bytes a read gave.
+fn count_of(got: Got) -> usize
+    ensures { result ≡ bytes_got got }
+{
+    match got {
+        Got::Bytes(count) => count as usize,
+        Got::End | Got::Failed => 0,
+    }
+}

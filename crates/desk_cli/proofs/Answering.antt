@@ -1,0 +1,98 @@
+-- What is answered, and how it is written.
+use Rattle.std.proofs.Common.{◌≡◌, ℕ, ◌≤◌, List, [], ◌∷◌, ◌++◌, length, map, get_or, Bool, arith, refl, sym, ◌∙◌, ap, subst, inl, inr, append_assoc}
+use Rattle.std.specs.Prelude.{◌⊎◌, ◌≢◌, Option, Some, None, IfSome, IfOk, Result, Ok, Err, codes, string_bytes, bytes_eq, IsTrue}
+use Rattle.std.proofs.lemmas.Slice.Eq.{bytes_eq-Decides}
+use Rattle.desk_io.specs.Faults.{Rose}
+use Rattle.desk_io.specs.Lines.{lines}
+use Rattle.desk_io.specs.Writing.{Appends, IsProperPrefix}
+use Rattle.desk_io.proofs.Appending.{Appends_more}
+use Rattle.desk_cli.specs.declared.answer.Answer.{Answer}
+use Rattle.desk_cli.specs.declared.fault.AuctionFault.{AuctionFault}
+use Rattle.desk_cli.specs.declared.fault.AuctionFault.TheVariants.{BadLine, LongLine, TooManyLines}
+use Rattle.desk_cli.specs.declared.fault.ReadEnd.{ReadEnd}
+use Rattle.desk_cli.specs.declared.fault.ReadEnd.TheVariants.{Fault}
+use Rattle.desk_cli.specs.Ending.{ReadsAs, IsAuctionOutcome, IsReadFault, IsJudged, IsSaid, IsWritten, IsAllWritten, IsCutOff, read_fault_outcome}
+use Rattle.desk_cli.specs.Judged.{AuctionValue, told_by}
+use Rattle.desk_cli.specs.Outcome.{Outcome, outcome_of, page_text, fault_text, fault_status}
+
+Rose-before : (before faults now : ℕ) → before ≤ faults → Rose faults now → Rose before now
+Rose-before before faults now rises rose = omega arith
+
+abbrev answered : Answer → Outcome
+answered answer = record { output = string_bytes answer.text; status = answer.status }
+
+same_outcome : (answer : Answer) (output : List ℕ) (status : ℕ) → string_bytes answer.text ≡ output → answer.status ≡ status →
+    let outcome : Outcome = record { output = output; status = status } in answered answer ≡ outcome
+same_outcome answer output status text is = cc
+
+-- the answer is that of what the bytes tell
+pub judged-answer : {E : Type 0} (left : Option (List ℕ)) (faults faults_now : ℕ) (told : Result AuctionValue AuctionFault) (result : Result Answer E) →
+    IfSome left (λ bytes. told_by (lines bytes) ≡ told) →
+    IfOk result (λ answer. string_bytes answer.text ≡ (outcome_of told).output) → IfOk result (λ answer. answer.status ≡ (outcome_of told).status) →
+    IfOk result (λ answer. IsAuctionOutcome left faults faults_now (answered answer))
+judged-answer left faults faults_now told (Ok answer) tells text status =
+    inr (record { told = told; is = same_outcome answer (outcome_of told).output (outcome_of told).status text status; bytes_tell = tells })
+judged-answer left faults faults_now told (Err e) tells text status = tt
+
+pub fault-tells : (left : Option (List ℕ)) (end : ReadEnd) (fault : AuctionFault) → end ≡ Fault fault →
+    IfSome left (λ bytes. ReadsAs (told_by (lines bytes)) (Err end)) → IfSome left (λ bytes. told_by (lines bytes) ≡ Err fault)
+fault-tells left end fault is reads = subst (λ e. IfSome left (λ bytes. ReadsAs (told_by (lines bytes)) (Err e))) is reads
+
+pub read_fault-answer : {E : Type 0} (left : Option (List ℕ)) (faults faults_now : ℕ) (result : Result Answer E) → Rose faults faults_now →
+    IfOk result (λ answer. string_bytes answer.text ≡ codes "read fault\n") → IfOk result (λ answer. answer.status ≡ 3) →
+    IfOk result (λ answer. IsAuctionOutcome left faults faults_now (answered answer))
+read_fault-answer left faults faults_now (Ok answer) rose text status = inl (record { rose = rose; is = same_outcome answer (codes "read fault\n") 3 text status })
+read_fault-answer left faults faults_now (Err e) rose text status = tt
+
+-- a status that is not 0 says nothing of what is left
+pub other-status : {E : Type 0} (P : Type 0) (status : ℕ) (result : Result Answer E) → status ≢ 0 → IfOk result (λ answer. answer.status ≡ status) →
+    IfOk result (λ answer. answer.status ≡ 0 → P)
+other-status P status (Ok answer) other is = λ zero. absurd (other (sym is ∙ zero))
+other-status P status (Err e) other is = tt
+
+pub fault-status_is_not_0 : (fault : AuctionFault) → fault_status fault ≢ 0
+unfolding fault_status
+fault-status_is_not_0 (BadLine number) = λ e. cc
+fault-status_is_not_0 (LongLine number) = λ e. cc
+fault-status_is_not_0 TooManyLines = λ e. cc
+
+pub all_read : {E : Type 0} (P : Type 0) (result : Result Answer E) → P → IfOk result (λ answer. answer.status ≡ 0 → P)
+all_read P (Ok answer) p = λ zero. p
+all_read P (Err e) p = tt
+
+-- some outcome is that of what the bytes tell
+pub some_judged : (left : Option (List ℕ)) → (outcome : Outcome) × IsJudged left outcome
+some_judged None = (outcome_of (Err TooManyLines), record { told = Err TooManyLines; is = refl; bytes_tell = tt })
+some_judged (Some bytes) = (outcome_of (told_by (lines bytes)), record { told = told_by (lines bytes); is = refl; bytes_tell = refl })
+
+proper-behind : (sent part waiting text : List ℕ) → sent ++ waiting ≡ text → IsProperPrefix part waiting → IsProperPrefix (sent ++ part) text
+proper-behind sent part waiting text whole prefix =
+    (prefix.0, sym whole ∙ ap (λ rest. sent ++ rest) prefix.1 ∙ sym (append_assoc sent part prefix.0), prefix.2)
+
+-- what waited is said behind what was sent
+pub said-behind : (w v u : Option (List ℕ)) (t s r : Option ℕ) (before faults faults_now : ℕ) (text waiting sent : List ℕ) (status result : ℕ) →
+    before ≤ faults → Appends w v t s sent → sent ++ waiting ≡ text → IsSaid v u s r faults faults_now waiting status result →
+    IsWritten w u t r before faults_now (record { output = text; status = status }) result
+said-behind w v u t s r before faults faults_now text waiting sent status result rises first whole (inl said) =
+    inl (inl (record { answered = said.answered; appended = subst (Appends w u t r) whole (Appends_more w v u t s r sent waiting first said.appended) }))
+said-behind w v u t s r before faults faults_now text waiting sent status result rises first whole (inr said) =
+    inl (inr (record {
+      answered = said.answered;
+      rose = Rose-before before faults faults_now rises said.rose;
+      sent = sent ++ said.sent;
+      beginning = proper-behind sent said.sent waiting text whole said.beginning;
+      appended = Appends_more w v u t s r sent said.sent first said.appended
+    }))
+
+-- a list of one word, tested
+word-is : (bytes text : List ℕ) (r : Bool) → r ≡ bytes_eq bytes text → (IsTrue r → bytes ∷ [] ≡ text ∷ []) × (bytes ∷ [] ≡ text ∷ [] → IsTrue r)
+word-is bytes text r is =
+    let tests = bytes_eq-Decides bytes text in
+    (λ yes. ap (λ (w : List ℕ). w ∷ []) (tests.0 (sym is ∙ yes)), λ same. is ∙ tests.1 (let e : bytes ≡ text = cc in e))
+
+pub one-word : {Z : Type 0} (words : List Z) (shown : Z → List ℕ) (word : Z) (bytes text : List ℕ) (r : Bool) → length words ≡ 1 → word ≡ get_or words 0 word →
+    bytes ≡ shown word → r ≡ bytes_eq bytes text →
+    (IsTrue r → map shown words ≡ text ∷ []) × (map shown words ≡ text ∷ [] → IsTrue r)
+one-word [] shown word bytes text r one is same tested = absurd (omega arith)
+one-word (w ∷ []) shown word bytes text r one is same tested = rw (ap shown (sym is) ∙ sym same) (word-is bytes text r tested)
+one-word (w ∷ v ∷ more) shown word bytes text r one is same tested = absurd (omega arith)

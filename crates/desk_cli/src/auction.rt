@@ -1,0 +1,100 @@
+//! The reading of an auction.
+
+ghost use Rattle.std.specs.Bool.{OnFalse};
+ghost use Rattle.std.specs.Option.{option_map};
+ghost use Rattle.std.specs.Prelude.{◌≡◌, ◌≤◌, ◌+◌, [], All, Ok, Err, IfSome, IfOk, IfErr, OnOk};
+ghost use Rattle.desk_io.specs.Lines.{lines};
+ghost use Rattle.desk_io.specs.NextLine.{ahead};
+ghost use Rattle.desk_cli.specs.Ending.{ReadEndCause, ReadsAs};
+ghost use Rattle.desk_cli.specs.Judged.{told_by};
+ghost use Rattle.desk_cli.specs.Meets.{Meets};
+ghost use Rattle.desk_cli.specs.Running.{EndsThere, Tells, Turned, end_of, told_from};
+
+use crate::fault::{AuctionFault, ReadEnd};
+use crate::heading::Heading;
+use crate::limits::{LINE_MAX, LINES_MAX};
+use crate::reading::Reading;
+use desk_io::{LineGot, LineReader, Source};
+use desk_types::Ad;
+use std::alloc::Global;
+
+/// An auction: its heading and its eligible ads, in the order of their lines.
+#[derive(Drop)]
+pub struct Auction {
+    pub heading: Heading,
+    pub ads: Vec<Ad>,
+}
+
+/// Reads an auction to the end of the input or to the first line with a fault.
+pub fn read_auction<S: Source>(alloc: Global, input: &mut S) -> Result<Auction, ReadEnd>
+    ensures told { IfSome (S.left input.old) (λ bytes. ReadsAs (told_by (lines bytes)) result) }
+    ensures meets { IfOk result (λ auction. All (Meets auction.heading) auction.ads.items) }
+    ensures all_read { OnOk result (IfSome (S.left input.new) (λ bytes. bytes ≡ [])) }
+    ensures cause { IfErr result (ReadEndCause (S.read_faults input.old) (S.read_faults input.new)) }
+    ensures faults { S.read_faults input.old ≤ S.read_faults input.new }
+{
+    let Ok(mut reader) = LineReader::new(alloc, LINE_MAX) else {
+        return Err(ReadEnd::NoMemory);
+    };
+    let mut reading = Reading::new(alloc);
+    match read_lines(&mut reader, &mut reading, input) {
+        Ok(number) => reading.end(number),
+        Err(end) => Err(end),
+    }
+}
+
+/// Takes the lines of the input, and answers the number of the line in whose place the end stands.
+fn read_lines<S: Source>(reader: &mut LineReader, reading: &mut Reading, input: &mut S) -> Result<u64, ReadEnd>
+    requires max { reader.old.max ≡ LINE_MAX }
+    ensures told { IfSome (ahead reader.old (S.left input.old)) (λ bytes. Tells (told_from reading.old 1 bytes) reading.new result) }
+    ensures all_read { OnOk result (IfSome (S.left input.new) (λ bytes. bytes ≡ [])) }
+    ensures cause { IfErr result (ReadEndCause (S.read_faults input.old) (S.read_faults input.new)) }
+    ensures faults { S.read_faults input.old ≤ S.read_faults input.new }
+{
+    for number in 1..LINES_MAX + 1 {
+        if !take_line(reader, reading, input, number)? {
+            return Ok(number);
+        }
+    }
+    match take_end(reader, input) {
+        Ok(()) => Ok(LINES_MAX + 1),
+        Err(end) => Err(end),
+    }
+}
+
+/// Takes the numbered line, or answers `false` where the end stands in its place.
+fn take_line<S: Source>(reader: &mut LineReader, reading: &mut Reading, input: &mut S, number: u64) -> Result<bool, ReadEnd>
+    requires number { (1 ≤ number) × (number ≤ LINES_MAX) }
+    requires max { reader.old.max ≡ LINE_MAX }
+    ensures max { reader.new.max ≡ LINE_MAX }
+    ensures turned { Turned (option_map (told_from reading.old number) (ahead reader.old (S.left input.old))) (option_map (told_from reading.new (number + 1)) (ahead reader.new (S.left input.new))) (end_of reading.new.heading number reading.new.eligible) result }
+    ensures all_read { IfOk result (λ more. OnFalse more (IfSome (S.left input.new) (λ bytes. bytes ≡ []))) }
+    ensures cause { IfErr result (ReadEndCause (S.read_faults input.old) (S.read_faults input.new)) }
+    ensures faults { S.read_faults input.old ≤ S.read_faults input.new }
+{
+    match reader.next(input) {
+        LineGot::Line => match reading.take(number, reader.line()) {
+            Ok(()) => Ok(true),
+            Err(end) => Err(end),
+        },
+        LineGot::End => Ok(false),
+        LineGot::TooLong => Err(ReadEnd::Fault(AuctionFault::LongLine(number))),
+        LineGot::ReadFault => Err(ReadEnd::ReadFault),
+    }
+}
+
+/// Sees that the end stands behind the last line that may be.
+fn take_end<S: Source>(reader: &mut LineReader, input: &mut S) -> Result<(), ReadEnd>
+    requires max { reader.old.max ≡ LINE_MAX }
+    ensures ends { EndsThere (ahead reader.old (S.left input.old)) result }
+    ensures all_read { OnOk result (IfSome (S.left input.new) (λ bytes. bytes ≡ [])) }
+    ensures cause { IfErr result (ReadEndCause (S.read_faults input.old) (S.read_faults input.new)) }
+    ensures faults { S.read_faults input.old ≤ S.read_faults input.new }
+{
+    match reader.next(input) {
+        LineGot::End => Ok(()),
+        LineGot::Line => Err(ReadEnd::Fault(AuctionFault::TooManyLines)),
+        LineGot::TooLong => Err(ReadEnd::Fault(AuctionFault::TooManyLines)),
+        LineGot::ReadFault => Err(ReadEnd::ReadFault),
+    }
+}

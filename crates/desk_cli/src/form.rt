@@ -1,0 +1,143 @@
+//! The forms of an auction's lines.
+
+ghost use Rattle.std.specs.Prelude.{◌≡◌, IfSome};
+ghost use Rattle.desk_types.specs.AdValue.{IsBid, IsQuality};
+ghost use Rattle.desk_cli.specs.HeadingValue.{IsFloor, IsPlaces};
+ghost use Rattle.desk_cli.specs.Form.{ad_from, ad_in, heading_from, heading_in, is_skipped as skips, name_from, name_in};
+
+use crate::fields::{five_fields, four_fields, has_outer_space, three_parts};
+use crate::heading::Heading;
+use crate::limits::{FREE_MAX, NUMBER_MAX};
+use crate::number::number_in;
+use desk_types::Ad;
+use desk_types::limits::{BID_MAX, BID_MIN, FLOOR_MAX, PLACES_MAX, QUALITY_MAX, QUALITY_MIN};
+
+/// The triple that names a line, each number 1 to 1,000,000.
+#[derive(Clone, Copy, Debug, PartialEq, Eq, Hash)]
+pub struct LineName {
+    pub account: u64,
+    pub campaign: u64,
+    pub line: u64,
+}
+
+/// What a line of an auction tells of an ad.
+#[derive(Clone, Copy, Debug, PartialEq, Eq)]
+pub struct AdLine {
+    pub ad: Ad,
+    /// The free budget of its campaign, in cents: 0 to 1,000,000,000,000.
+    pub free: u64,
+}
+
+impl AdLine {
+    /// The name of the ad's line.
+    pub fn name(&self) -> LineName
+        ensures { result ≡ record { account = self.now.ad.account; campaign = self.now.ad.campaign; line = self.now.ad.line } }
+    {
+        LineName {
+            account: self.ad.account(),
+            campaign: self.ad.campaign(),
+            line: self.ad.line(),
+        }
+    }
+}
+
+/// Whether a line is passed over: it is empty or begins with `#`.
+pub fn is_skipped(line: &[u8]) -> bool
+    ensures { result ≡ skips line.now }
+{
+    match line {
+        [] => true,
+        [byte, ..] => *byte == b'#',
+    }
+}
+
+/// The heading that a line tells: `auction RESERVE FLOOR PLACES`, or `None` where it is in another form.
+#[tactic(auto, unfolding(crate::specs::Form::heading_in), using(crate::proofs::FormLemmas::no_heading))]
+pub fn heading_of(line: &[u8]) -> Option<Heading>
+    ensures { result ≡ heading_in line.now }
+{
+    if has_outer_space(line) {
+        return None;
+    }
+    let (word, reserve, floor, places) = four_fields(line)?;
+    if word != b"auction".as_slice() {
+        return None;
+    }
+    let reserve = number_in(reserve, BID_MIN, BID_MAX);
+    let floor = number_in(floor, 0, FLOOR_MAX);
+    let places = number_in(places, 1, PLACES_MAX);
+    made_heading(reserve, floor, places)
+}
+
+/// The heading of three numbers, where each is told.
+fn made_heading(reserve: Option<u64>, floor: Option<u64>, places: Option<u64>) -> Option<Heading>
+    requires reserve { IfSome reserve IsBid }
+    requires floor { IfSome floor IsFloor }
+    requires places { IfSome places IsPlaces }
+    ensures { result ≡ heading_from reserve floor places }
+{
+    match (reserve, floor, places) {
+        (Some(reserve), Some(floor), Some(places)) => Some(Heading::new(reserve, floor, places)),
+        _ => None,
+    }
+}
+
+/// The name that a text tells: `ACCOUNT.CAMPAIGN.LINE`, or `None` where it is in another form.
+#[tactic(auto, unfolding(crate::specs::Form::name_in), using(crate::proofs::FormLemmas::no_name))]
+fn name_of(text: &[u8]) -> Option<LineName>
+    ensures { result ≡ name_in text.now }
+{
+    let (account, campaign, line) = three_parts(text)?;
+    let account = number_in(account, 1, NUMBER_MAX);
+    let campaign = number_in(campaign, 1, NUMBER_MAX);
+    let line = number_in(line, 1, NUMBER_MAX);
+    made_name(account, campaign, line)
+}
+
+/// The name of three numbers, where each is told.
+fn made_name(account: Option<u64>, campaign: Option<u64>, line: Option<u64>) -> Option<LineName>
+    ensures { result ≡ name_from account campaign line }
+{
+    match (account, campaign, line) {
+        (Some(account), Some(campaign), Some(line)) => Some(LineName {
+            account,
+            campaign,
+            line,
+        }),
+        _ => None,
+    }
+}
+
+/// The ad that a line tells: `ad ACCOUNT.CAMPAIGN.LINE BID QUALITY FREE`, or `None` where it is in another form.
+#[tactic(auto, unfolding(crate::specs::Form::ad_in), using(crate::proofs::FormLemmas::no_ad))]
+pub fn ad_of(line: &[u8]) -> Option<AdLine>
+    ensures { result ≡ ad_in line.now }
+{
+    if has_outer_space(line) {
+        return None;
+    }
+    let (word, name, bid, quality, free) = five_fields(line)?;
+    if word != b"ad".as_slice() {
+        return None;
+    }
+    let name = name_of(name);
+    let bid = number_in(bid, BID_MIN, BID_MAX);
+    let quality = number_in(quality, QUALITY_MIN, QUALITY_MAX);
+    let free = number_in(free, 0, FREE_MAX);
+    made_ad(name, bid, quality, free)
+}
+
+/// The ad of a name and three numbers, where each is told; the bid and the quality are in range where they are.
+fn made_ad(name: Option<LineName>, bid: Option<u64>, quality: Option<u64>, free: Option<u64>) -> Option<AdLine>
+    requires bid { IfSome bid IsBid }
+    requires quality { IfSome quality IsQuality }
+    ensures { result ≡ ad_from name bid quality free }
+{
+    match (name, bid, quality, free) {
+        (Some(name), Some(bid), Some(quality), Some(free)) => {
+            let ad = Ad::new(name.account, name.campaign, name.line, bid, quality)?;
+            Some(AdLine { ad, free })
+        }
+        _ => None,
+    }
+}

@@ -1,0 +1,69 @@
+//! What the first line of an auction tells.
+
+ghost use Rattle.std.specs.Prelude.{◌≡◌, ◌≤◌, ◌↔◌, IsSome, IfSome};
+ghost use Rattle.desk_types.specs.AdValue.{IsBid};
+ghost use Rattle.desk_cli.specs.HeadingValue.{IsFloor, IsPlaces};
+
+use desk_types::limits::{BID_MAX, BID_MIN, FLOOR_MAX, PLACES_MAX};
+use std::marker::Model;
+
+/// The conditions of an auction: the reserve is 1 to 1,000,000 cents, the floor is a score of 0 to
+/// 100,000,000, and the places are 1 to 8.
+#[derive(Clone, Copy, Debug, PartialEq, Eq)]
+pub struct Heading {
+    reserve: u64,
+    floor: u64,
+    places: u64,
+}
+
+impl Model for Heading {
+    ghost use Rattle.desk_cli.specs.HeadingValue.{HeadingValue, IsHeading};
+
+    ghost Value = { HeadingValue };
+
+    ghost view = { λ h. record { reserve = h.reserve; floor = h.floor; places = h.places } };
+
+    ghost invariant = { λ h. IsHeading (record { reserve = h.reserve; floor = h.floor; places = h.places }) };
+
+    ghost inverse = { λ v. record { reserve = v.reserve; floor = v.floor; places = v.places } };
+}
+
+impl Heading {
+    /// The heading of three numbers, each of which is in range.
+    pub fn new(reserve: u64, floor: u64, places: u64) -> Heading
+        requires reserve { IsBid reserve }
+        requires floor { IsFloor floor }
+        requires places { IsPlaces places }
+        ensures { result ≡ record { reserve = reserve; floor = floor; places = places } }
+    {
+        Heading {
+            reserve,
+            floor,
+            places,
+        }
+    }
+
+    /// The least bid that is eligible, in cents.
+    pub fn reserve(&self) -> u64
+        ensures reserve { result ≡ self.now.reserve }
+        ensures in_range { IsBid result }
+    {
+        self.reserve
+    }
+
+    /// The least score that is eligible.
+    pub fn floor(&self) -> u64
+        ensures floor { result ≡ self.now.floor }
+        ensures in_range { IsFloor result }
+    {
+        self.floor
+    }
+
+    /// The number of places.
+    pub fn places(&self) -> u64
+        ensures places { result ≡ self.now.places }
+        ensures in_range { IsPlaces result }
+    {
+        self.places
+    }
+}

@@ -1,0 +1,43 @@
+//! The program `desk`: its words, its commands and their statuses.
+//! `desk_top` reads an auction and writes its page: the best ads at the least prices that keep their places.
+//! It stands on `desk_io`, `desk_types`, `gsp_price` and `rank_core`.
+//! `main` makes the real input and output, and nothing else.
+#![tactic(auto)]
+
+mod answer;
+mod auction;
+mod fault;
+mod fields;
+mod form;
+mod heading;
+mod limits;
+mod number;
+mod page;
+mod reading;
+mod top;
+
+use desk_io::{StdSink, StdSource};
+use std::alloc::{AllocError, Global};
+use std::env;
+use std::io;
+use std::process::ExitCode;
+
+fn main(rt: HostRuntime) -> ExitCode {
+    let words = match words_of(&rt) {
+        Ok(words) => words,
+        Err(error) if error.kind() == io::ErrorKind::OutOfMemory => return ExitCode::from(5),
+        Err(_) => Vec::new(rt.alloc()),
+    };
+    let mut input = StdSource::new(rt.stdin());
+    let mut output = StdSink::new(rt.stdout());
+    ExitCode::from(top::desk_top(rt.alloc(), &words, &mut input, &mut output))
+}
+
+/// The words behind the program's name.
+fn words_of(rt: &HostRuntime) -> io::Result<Vec<String>> {
+    let mut words = Vec::new(rt.alloc());
+    for word in env::args(rt)?.skip(1) {
+        words.push(word)?;
+    }
+    Ok(words)
+}

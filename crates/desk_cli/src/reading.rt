@@ -1,0 +1,165 @@
+//! What a reader of an auction keeps from line to line.
+
+ghost use Rattle.std.specs.Prelude.{◌≡◌, ◌≢◌, ◌∷◌, ◌++◌, [], None, Some, All, OnOk, OnErr, IfOk, IfErr};
+ghost use Rattle.desk_cli.specs.Ending.{ReadsAs};
+ghost use Rattle.desk_cli.specs.Form.{ad_in, heading_in};
+ghost use Rattle.desk_cli.specs.Meets.{Meets};
+ghost use Rattle.desk_cli.specs.Judged.{heading_fault};
+ghost use Rattle.desk_cli.specs.Running.{EndsBy, ad_fault_now, fault_now, end_of, kept_ads, name_fault, nothing_yet, spoken_step, step, with_ad};
+ghost use Rattle.desk_cli.specs.Told.{is_eligible};
+
+use crate::auction::Auction;
+use crate::fault::{AuctionFault, ReadEnd};
+use crate::form::{AdLine, LineName, ad_of, heading_of, is_skipped};
+use crate::heading::Heading;
+use crate::limits::ADS_MAX;
+use desk_types::Ad;
+use indexmap::IndexSet;
+use std::alloc::Global;
+use std::marker::Model;
+
+/// The heading, the names of all ads and the ads that are eligible, as the lines so far tell them.
+#[derive(Drop)]
+pub struct Reading {
+    heading: Option<Heading>,
+    names: IndexSet<LineName>,
+    eligible: Vec<Ad>,
+}
+
+impl Model for Reading {
+    ghost use Rattle.desk_cli.specs.Running.{SoFar};
+
+    ghost use Rattle.desk_cli.specs.Meets.{AllMeet};
+
+    ghost Value = { SoFar };
+
+    ghost view = { λ r. record { heading = r.heading; names = r.names.keys; eligible = r.eligible.items } };
+
+    // each ad that is kept meets the heading's reserve and floor
+    ghost invariant = { λ r. AllMeet r.heading r.eligible.items };
+}
+
+impl Reading {
+    /// Nothing is told yet.
+    pub fn new(alloc: Global) -> Reading
+        ensures { result ≡ nothing_yet }
+    {
+        Reading {
+            heading: None,
+            names: IndexSet::new(alloc),
+            eligible: Vec::new(alloc),
+        }
+    }
+
+    /// Takes the text of the next line, whose number it is told.
+    ///
+    /// It fails where the line has a fault, or for want of memory; the reading is then over.
+    #[tactic(auto, unfolding(crate::specs::Running::fault_now, crate::specs::Running::step, crate::specs::Running::spoken_fault, crate::specs::Running::spoken_step))]
+    pub fn take(&mut self, number: u64, text: &[u8]) -> Result<(), ReadEnd>
+        ensures taken { OnOk result ((fault_now self.old number text.now ≡ None) × (self.new ≡ step self.old text.now)) }
+        ensures ended { IfErr result (EndsBy (fault_now self.old number text.now)) }
+    {
+        if is_skipped(text) {
+            return Ok(());
+        }
+        match self.heading() {
+            None => self.take_heading(number, text),
+            Some(heading) => self.take_ad(&heading, number, text),
+        }
+    }
+
+    /// The heading, once a line told it.
+    pub fn heading(&self) -> Option<Heading>
+        ensures { result ≡ self.now.heading }
+    {
+        self.heading
+    }
+
+    /// The auction that the lines told, where the end stands in place of the numbered line.
+    pub fn end(self, number: u64) -> Result<Auction, ReadEnd>
+        ensures reads { ReadsAs (end_of self.heading number self.eligible) result }
+        ensures meets { IfOk result (λ auction. All (Meets auction.heading) auction.ads.items) }
+        ensures no_read_fault { IfErr result (λ end. end ≢ ReadEnd.ReadFault) }
+    {
+        match self.heading {
+            None => Err(ReadEnd::Fault(AuctionFault::BadLine(number))),
+            Some(heading) => Ok(Auction {
+                heading,
+                ads: self.eligible,
+            }),
+        }
+    }
+
+    /// Takes the line of the heading.
+    #[tactic(auto, unfolding(crate::specs::Running::spoken_step))]
+    fn take_heading(&mut self, number: u64, text: &[u8]) -> Result<(), ReadEnd>
+        requires { self.old.heading ≡ None }
+        ensures taken { OnOk result ((heading_fault number (heading_in text.now) ≡ None) × (self.new ≡ spoken_step None self.old text.now)) }
+        ensures ended { IfErr result (EndsBy (heading_fault number (heading_in text.now))) }
+    {
+        match heading_of(text) {
+            None => Err(ReadEnd::Fault(AuctionFault::BadLine(number))),
+            Some(heading) => {
+                self.heading = Some(heading);
+                Ok(())
+            }
+        }
+    }
+
+    /// Takes the line of an ad.
+    #[tactic(auto, unfolding(crate::specs::Running::ad_fault_now, crate::specs::Running::with_ad))]
+    fn take_ad(&mut self, heading: &Heading, number: u64, text: &[u8]) -> Result<(), ReadEnd>
+        requires { self.old.heading ≡ Some heading.now }
+        ensures taken { OnOk result ((ad_fault_now self.old number (ad_in text.now) ≡ None) × (self.new ≡ with_ad heading.now self.old (ad_in text.now))) }
+        ensures ended { IfErr result (EndsBy (ad_fault_now self.old number (ad_in text.now))) }
+    {
+        match ad_of(text) {
+            None => Err(ReadEnd::Fault(AuctionFault::BadLine(number))),
+            Some(line) => {
+                note_name(&mut self.names, line.name(), number)?;
+                keep(&mut self.eligible, heading, &line)
+            }
+        }
+    }
+}
+
+/// Puts the name of an ad behind the earlier ones.
+///
+/// It fails where the name stands there already, where it is one too many, or for want of memory.
+#[tactic(auto, unfolding(crate::specs::Running::name_fault))]
+fn note_name(names: &mut IndexSet<LineName>, name: LineName, number: u64) -> Result<(), ReadEnd>
+    ensures noted { OnOk result ((name_fault names.old.keys number name ≡ None) × (names.new.keys ≡ names.old.keys ++ name ∷ [])) }
+    ensures ended { IfErr result (EndsBy (name_fault names.old.keys number name)) }
+{
+    if names.contains(&name) {
+        return Err(ReadEnd::Fault(AuctionFault::BadLine(number)));
+    }
+    if names.len() as u64 >= ADS_MAX {
+        return Err(ReadEnd::Fault(AuctionFault::TooManyLines));
+    }
+    match names.insert_full(name) {
+        Ok(_) => Ok(()),
+        Err(_) => Err(ReadEnd::NoMemory),
+    }
+}
+
+/// Puts an ad behind the earlier ones where it is eligible; else it is left out.
+fn keep(eligible: &mut Vec<Ad>, heading: &Heading, line: &AdLine) -> Result<(), ReadEnd>
+    ensures kept { OnOk result (eligible.new.items ≡ eligible.old.items ++ kept_ads (is_eligible heading.now line.now) line.now) }
+    ensures same { OnErr result (eligible.new.items ≡ eligible.old.items) }
+    ensures ended { IfErr result (λ end. end ≡ ReadEnd.NoMemory) }
+{
+    if admits(heading, line) && eligible.push(line.ad).is_err() {
+        return Err(ReadEnd::NoMemory);
+    }
+    Ok(())
+}
+
+/// Whether an ad's bid meets the reserve, the floor and its campaign's free budget.
+#[tactic(auto, unfolding(crate::specs::Told::is_eligible))]
+fn admits(heading: &Heading, line: &AdLine) -> bool
+    ensures { result ≡ is_eligible heading.now line.now }
+{
+    let ad = &line.ad;
+    heading.reserve() <= ad.bid() && heading.floor() <= ad.score() && ad.bid() <= line.free
+}

@@ -1,0 +1,64 @@
+//! The call that the program makes.
+
+ghost use Rattle.std.specs.Prelude.{◌≡◌, ◌≤◌, ◌↔◌, [], map, IsTrue, IfSome, IfOk, string_bytes};
+ghost use Rattle.desk_cli.specs.Ending.{AreAuctionWords, IsAuctionOutcome, IsOutcome, IsWritten};
+ghost use Rattle.desk_cli.specs.Outcome.{Outcome};
+
+use crate::answer::{Answer, fault_answer, page_answer, read_fault_answer, say};
+use crate::auction::read_auction;
+use crate::fault::ReadEnd;
+use desk_io::{Sink, Source};
+use std::alloc::{AllocError, Global};
+
+/// Runs the command that the words name, and answers the status of the process.
+///
+/// The one command is `auction`: it reads an auction from the input and writes its page, or a line
+/// that says why there is none.
+///
+/// | Status | Comes | Line written last |
+/// |---|---|---|
+/// | 0 | the input is an auction | - |
+/// | 2 | the words are not the one word `auction` | `words refused` |
+/// | 3 | a read failed: the input's count of faults rose | `read fault` |
+/// | 4 | a write failed: the output's count of faults rose | - |
+/// | 5 | want of memory; nothing is written | - |
+/// | 8 | a line in no form, or the end before the heading | `bad line K` |
+/// | 9 | a line of more than 4,096 bytes, or more than 1,000,000 lines or 10,000 ads | `long line K` or `too many lines` |
+pub fn desk_top<S: Source, T: Sink>(alloc: Global, words: &[String], input: &mut S, output: &mut T) -> u8
+    ensures ended { (outcome : Outcome) × IsOutcome (map string_bytes words.now) (S.left input.old) (S.read_faults input.old) (S.read_faults input.new) outcome × IsWritten (T.written output.old) (T.written output.new) (T.taken output.old) (T.taken output.new) (T.write_faults output.old) (T.write_faults output.new) outcome result }
+    ensures all_read { result ≡ 0 → IfSome (S.left input.new) (λ bytes. bytes ≡ []) }
+    ensures read_faults { S.read_faults input.old ≤ S.read_faults input.new }
+    ensures write_faults { T.write_faults output.old ≤ T.write_faults output.new }
+{
+    if !are_auction(words) {
+        return say(alloc, output, "words refused\n", 2);
+    }
+    match auction_answer(alloc, input) {
+        Ok(answer) => say(alloc, output, answer.text.as_str(), answer.status),
+        Err(_) => 5,
+    }
+}
+
+/// Whether the words are the one word `auction`.
+fn are_auction(words: &[String]) -> bool
+    ensures { IsTrue result ↔ AreAuctionWords (map string_bytes words.now) }
+{
+    if words.len() != 1 {
+        return false;
+    }
+    words[0].as_str() == "auction"
+}
+
+/// Reads an auction, and answers its page or why there is none.
+fn auction_answer<S: Source>(alloc: Global, input: &mut S) -> Result<Answer, AllocError>
+    ensures outcome { IfOk result (λ answer. IsAuctionOutcome (S.left input.old) (S.read_faults input.old) (S.read_faults input.new) (record { output = string_bytes answer.text; status = answer.status })) }
+    ensures all_read { IfOk result (λ answer. answer.status ≡ 0 → IfSome (S.left input.new) (λ bytes. bytes ≡ [])) }
+    ensures faults { S.read_faults input.old ≤ S.read_faults input.new }
+{
+    match read_auction(alloc, input) {
+        Ok(auction) => page_answer(alloc, &auction),
+        Err(ReadEnd::Fault(fault)) => fault_answer(alloc, fault),
+        Err(ReadEnd::ReadFault) => read_fault_answer(alloc),
+        Err(ReadEnd::NoMemory) => Err(AllocError),
+    }
+}

@@ -1,6 +1,6 @@
 -- What is answered, and how it is written.
 use Rattle.std.proofs.Common.{◌≡◌, ℕ, ◌≤◌, List, [], ◌∷◌, ◌++◌, length, map, get_or, Bool, arith, refl, sym, ◌∙◌, ap, subst, inl, inr, append_assoc}
-use Rattle.std.specs.Prelude.{◌⊎◌, ◌≢◌, Option, Some, None, IfSome, IfOk, Result, Ok, Err, codes, string_bytes, bytes_eq, IsTrue}
+use Rattle.std.specs.Prelude.{◌≢◌, Option, Some, None, IfSome, IfOk, Result, Ok, Err, codes, string_bytes, bytes_eq, IsTrue}
 use Rattle.std.proofs.lemmas.Slice.Eq.{bytes_eq-Decides}
 use Rattle.desk_io.specs.Faults.{Rose}
 use Rattle.desk_io.specs.Lines.{lines}
@@ -11,9 +11,9 @@ use Rattle.desk_cli.specs.declared.fault.AuctionFault.{AuctionFault}
 use Rattle.desk_cli.specs.declared.fault.AuctionFault.TheVariants.{BadLine, LongLine, TooManyLines}
 use Rattle.desk_cli.specs.declared.fault.ReadEnd.{ReadEnd}
 use Rattle.desk_cli.specs.declared.fault.ReadEnd.TheVariants.{Fault}
-use Rattle.desk_cli.specs.Ending.{ReadsAs, IsAuctionOutcome, IsReadFault, IsJudged, IsSaid, IsWritten, IsAllWritten, IsCutOff, read_fault_outcome}
+use Rattle.desk_cli.specs.Ending.{ReadsAs, IsAuctionOutcome, IsJudged, IsSaid, IsWritten}
 use Rattle.desk_cli.specs.Judged.{AuctionValue, told_by}
-use Rattle.desk_cli.specs.Outcome.{Outcome, outcome_of, page_text, fault_text, fault_status}
+use Rattle.desk_cli.specs.Outcome.{Outcome, outcome_of, fault_status}
 
 Rose-before : (before faults now : ℕ) → before ≤ faults → Rose faults now → Rose before now
 Rose-before before faults now rises rose = omega arith
@@ -81,7 +81,7 @@ said-behind w v u t s r before faults faults_now text waiting sent status result
       rose = Rose-before before faults faults_now rises said.rose;
       sent = sent ++ said.sent;
       beginning = proper-behind sent said.sent waiting text whole said.beginning;
-      appended = Appends_more w v u t s r sent said.sent first said.appended
+      appended = Appends_more w v u t s r sent said.sent first said.appended;
     }))
 
 -- a list of one word, tested

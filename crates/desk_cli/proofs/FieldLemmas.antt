@@ -1,14 +1,13 @@
 -- Fields and parts, cut off one after another.
-use Rattle.std.proofs.Common.{◌≡◌, ◌≢◌, ℕ, suc, ◌<◌, ◌≤◌, ◌+◌, List, [], ◌∷◌, length, take, take_all, drop, get_or, refl, sym, ◌∙◌, ap, arith, Bool, true, false, inl, inr, add-one, drop-cons}
-use Rattle.std.specs.Prelude.{◌==◌, ◌⊎◌, nat_lt, filter, slice_index}
+use Rattle.std.proofs.Common.{◌≡◌, ◌≢◌, ℕ, ◌<◌, ◌≤◌, ◌+◌, List, [], ◌∷◌, length, take, take_all, drop, get_or, refl, sym, ◌∙◌, ap, arith, Bool, false, inl, inr, drop-cons}
+use Rattle.std.specs.Prelude.{◌==◌, nat_lt, filter, slice_index}
 use Rattle.std.specs.List.{slice_split, position_or_len, All}
-use Rattle.std.proofs.lemmas.Bool.{cases_lt, eqb-true, lt-ltb, cond-true, cond-false, le-ltb}
+use Rattle.std.proofs.lemmas.Bool.{cases_lt, eqb-true, lt-ltb, cond-true}
 use Rattle.std.proofs.lemmas.Grind.{common_steps}
 use Rattle.std.proofs.lemmas.List.{length-take-le, drop_all}
 use Rattle.std.proofs.lemmas.List.Elements.{All-from_get_or}
 use Rattle.std.proofs.lemmas.List.Splits.{length-slice_split, slice_split_first, slice_split_none}
 use Rattle.std.proofs.lemmas.List.Sums.{fails_before_first, passes_at_first}
-use Rattle.std.proofs.Math.Seq.{take-length}
 use Rattle.desk_cli.specs.Form.{fields, parts}
 
 abbrev is_space : ℕ → Bool
@@ -69,11 +68,12 @@ pub fields_first : (text : List ℕ) → 0 < length text → slice_index text 0 
 fields_first text long first =
     let n : ℕ = position_or_len is_space text in
     elim (cases_lt n (length text)) [
-      inl h ↦ first_of_some text h (elim (cases_lt 0 n) [
-        inl p ↦ p
-      | inr z ↦ absurd (first (let at_first : get_or text n 0 ≡ 32 = eqb-true _ _ (passes_at_first is_space text 0 h) in
-          let is_zero : n ≡ 0 = omega arith in rw is_zero at at_first)) ])
-    | inr h ↦ first_of_all text h long ∙ all_taken text n h
+      | inl h ↦ first_of_some text h (elim (cases_lt 0 n) [
+        | inl p ↦ p
+        | inr z ↦ absurd (first (let at_first : get_or text n 0 ≡ 32 = eqb-true _ _ (passes_at_first is_space text 0 h) in
+            let is_zero : n ≡ 0 = omega arith in rw is_zero at at_first))
+      ])
+      | inr h ↦ first_of_all text h long ∙ all_taken text n h
     ]
 
 pub parts_none : (text : List ℕ) → length text ≡ position_or_len (λ byte. byte == 46) text → parts text ≡ text ∷ []

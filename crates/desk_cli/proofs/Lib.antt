@@ -4,6 +4,5 @@ pub mod FormLemmas
 pub mod Run
 pub mod Turns
 pub mod Meeting
-
 pub mod OnPage
 pub mod Answering

@@ -1,6 +1,6 @@
 -- The ads that are kept meet the heading.
-use Rattle.std.proofs.Common.{◌≡◌, ℕ, zero, suc, get_or, ◌≤◌, List, [], ◌∷◌, ◌++◌, true, false, Bool, arith, sym, refl, ◌∙◌, length, ◌<◌, subst}
-use Rattle.std.specs.Prelude.{All, Option, Some, None, Result, Ok, Err, OnOk, OnErr, nat_le, ◌&&◌}
+use Rattle.std.proofs.Common.{◌≡◌, ℕ, zero, suc, get_or, List, [], ◌∷◌, ◌++◌, true, false, Bool, arith, sym, refl, ◌<◌, subst}
+use Rattle.std.specs.Prelude.{All, Option, Some, None, Result, Ok, Err, OnOk, OnErr, nat_le}
 use Rattle.std.proofs.lemmas.Bool.{and_parts, leb-true}
 use Rattle.std.proofs.lemmas.List.Elements.{All-append}
 use Rattle.desk_types.specs.AdValue.{AdValue, score}
@@ -41,7 +41,7 @@ some-meet None heading ads line is meet = cc
 some-meet (Some other) heading ads line is meet =
     let same : heading ≡ other = cc in
     subst (λ (h : HeadingValue). All (Meets other) (ads ++ kept_ads (is_eligible h line) line)) (sym same)
-      (All-append (Meets other) ads (kept_ads (is_eligible other line) line) meet (kept-meet other line (is_eligible other line) refl))
+    (All-append (Meets other) ads (kept_ads (is_eligible other line) line) meet (kept-meet other line (is_eligible other line) refl))
 
 -- an ad is kept, or, for want of memory, none
 pub more-meet : (told : Option HeadingValue) (heading : HeadingValue) (ads kept : List AdValue) (line : AdLine) (result : Result (Unit {0}) ReadEnd) →

@@ -1,6 +1,6 @@
 -- What a numeral is to `from_utf8` and to `parse`.
-use Rattle.std.proofs.Common.{◌≡◌, ℕ, ◌<◌, ◌≤◌, ◌^◌, ◌+◌, List, [], ◌∷◌, length, true, false, Bool, refl, arith, rules, get_or, SomeIff}
-use Rattle.std.specs.Prelude.{IsTrue, ◌&&◌, not, nat_lt, ◌==◌, slice_index}
+use Rattle.std.proofs.Common.{◌≡◌, ℕ, ◌<◌, ◌^◌, List, [], ◌∷◌, length, true, arith, rules, SomeIff}
+use Rattle.std.specs.Prelude.{not, ◌==◌, slice_index}
 use Rattle.std.specs.Prelude.{Result, Ok, Err}
 use Rattle.std.specs.Result.{OkIff, result_ok}
 use Rattle.std.specs.List.{list_all}

@@ -1,13 +1,13 @@
 -- The entrants on the page, one after another.
-use Rattle.std.proofs.Common.{Bor, ◌≡◌, ℕ, zero, suc, ◌+◌, ◌≤◌, ◌<◌, List, [], ◌∷◌, ◌++◌, length, map, take, get_or, refl, sym, ◌∙◌, ap, subst, true, append_assoc, append-nil, arith}
+use Rattle.std.proofs.Common.{Bor, ◌≡◌, ℕ, zero, suc, ◌+◌, ◌≤◌, ◌<◌, List, [], ◌∷◌, ◌++◌, length, take, get_or, refl, sym, ◌∙◌, ap, subst, append-nil, arith}
 use Rattle.std.specs.Prelude.{Option, Some, None, IfSome, IsTrue, slice_get, flat_map, codes, Contains, All}
 use Rattle.std.specs.Option.{option_map, option_copied}
 use Rattle.std.proofs.lemmas.Option.{slice_get-map, slice_get-get_or, get_or_from_slice_get}
 use Rattle.std.proofs.lemmas.Grind.{flat_map-append}
 use Rattle.std.proofs.lemmas.List.{take_more, length-map, take_all}
 use Rattle.std.proofs.lemmas.List.Elements.{All-contains}
-use Rattle.desk_types.specs.AdValue.{AdValue, score}
-use Rattle.desk_types.specs.Laws.{AreFirstPlaces, IsNextBelow}
+use Rattle.desk_types.specs.AdValue.{AdValue}
+use Rattle.desk_types.specs.Laws.{IsNextBelow}
 use Rattle.desk_types.specs.Order.{better}
 use Rattle.desk_types.specs.Page.{AreOfDifferentAccounts, entrants, page, place, next_below}
 use Rattle.desk_types.specs.Price.{price}
@@ -45,9 +45,9 @@ ranked-place entered n k r (Some a) apart there is =
       entrant = subst (λ (x : AdValue). Contains entered x) (sym same) contains;
       next = ap (next_below entered) same ∙ sym next;
       ahead = subst (λ (o : Option AdValue). IfSome o (λ below. IsTrue (better r.ad below))) (sym next)
-        (subst (λ (x : AdValue). IfSome (next_below entered a) (λ below. IsTrue (better x below))) (sym same)
+          (subst (λ (x : AdValue). IfSome (next_below entered a) (λ below. IsTrue (better x below))) (sym same)
           (below-ahead entered a (next_below entered a) (next_below-law entered a apart contains)));
-      place = ap (place entered) same ∙ first.places k a there
+      place = ap (place entered) same ∙ first.places k a there;
     }
 
 pub ranked-at : (entered : List AdValue) (n k : ℕ) (r : Ranked) → AreOfDifferentAccounts entered → slice_get (ranked entered n) k ≡ Some r → IsOnPage entered n k r
@@ -95,7 +95,7 @@ written-more auction k cents r on_page is =
     let ads : List AdValue = page entered auction.heading.places in
     let more : take (k + 1) ads ≡ take k ads ++ r.ad ∷ [] = take_more ads k r.ad (in-page ads k r.ad on_page.there) ∙ ap (λ a. take k ads ++ a ∷ []) (get-at ads k r.ad r.ad on_page.there) in
     sym (ap (flat_map (entrant_text auction)) more ∙ (flat_map-append (entrant_text auction) (take k ads) (r.ad ∷ [])
-      ∙ ap (λ rest. flat_map (entrant_text auction) (take k ads) ++ rest) (append-nil (entrant_text auction r.ad) ∙ rw (on_page.place, ← is) refl)))
+    ∙ ap (λ rest. flat_map (entrant_text auction) (take k ads) ++ rest) (append-nil (entrant_text auction r.ad) ∙ rw (on_page.place, ← is) refl)))
 
 -- the item that a loop reads is on the page
 pub item-on_page : (ads ads' : List AdValue) (n n' k : ℕ) (items : List Ranked) (r : Ranked) → ads' ≡ ads → n' ≡ n →
@@ -104,7 +104,7 @@ item-on_page ads ads' n n' k items r same_ads same_n all apart in_list is =
     let there : slice_get items k ≡ Some r = slice_get-get_or items k r in_list ∙ ap Some (sym is) in
     let there' : slice_get (ranked (entrants ads') n') k ≡ Some r = rw all at there in
     subst (λ (m : ℕ). IsOnPage (entrants ads) m k r) same_n
-      (subst (λ (xs : List AdValue). IsOnPage (entrants xs) n' k r) same_ads (ranked-at (entrants ads') n' k r apart there'))
+    (subst (λ (xs : List AdValue). IsOnPage (entrants xs) n' k r) same_ads (ranked-at (entrants ads') n' k r apart there'))
 
 -- what holds of a copy holds behind the reference
 pub copied : (P : AdValue → Type 0) (o : Option (Bor AdValue)) (x : Option AdValue) → option_copied o ≡ x → IfSome x P → IfSome o (λ b. P b.now)

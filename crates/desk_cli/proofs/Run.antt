@@ -1,21 +1,20 @@
 -- What is kept from line to line leads to what the whole of the lines tells.
-use Rattle.std.proofs.Common.{◌≡◌, ℕ, suc, ◌+◌, ◌≤◌, List, [], ◌∷◌, ◌++◌, length, map, refl, sym, ◌∙◌, ap, arith, Bool, true, false, cond, append_assoc, append-nil, length-append, subst}
+use Rattle.std.proofs.Common.{◌≡◌, ℕ, ◌+◌, List, [], ◌∷◌, ◌++◌, length, map, refl, sym, ◌∙◌, ap, Bool, true, false, cond, append_assoc, append-nil, length-append, subst}
 use Rattle.std.proofs.lemmas.List.{map-append, length-map}
 use Rattle.std.proofs.lemmas.List.Elements.{filter-append, filter_map-append}
-use Rattle.std.specs.Prelude.{◌||◌, Option, Some, None, Result, Ok, Err, not, nat_le, nat_lt, filter}
+use Rattle.std.specs.Prelude.{◌||◌, Option, Some, None, Result, not, nat_le, nat_lt, filter}
 use Rattle.std.specs.List.{list_any, filter_map}
-use Rattle.std.proofs.lemmas.Grind.{common_steps}
 use Rattle.desk_types.specs.AdValue.{AdValue, is_same_line}
 use Rattle.desk_io.specs.Lines.{Line}
-use Rattle.desk_cli.specs.declared.limits.TheConstants.{LINE_MAX, LINES_MAX, ADS_MAX}
+use Rattle.desk_cli.specs.declared.limits.TheConstants.{LINE_MAX, LINES_MAX}
 use Rattle.desk_cli.specs.declared.fault.AuctionFault.{AuctionFault}
-use Rattle.desk_cli.specs.declared.fault.AuctionFault.TheVariants.{BadLine, LongLine, TooManyLines}
+use Rattle.desk_cli.specs.declared.fault.AuctionFault.TheVariants.{LongLine, TooManyLines}
 use Rattle.desk_cli.specs.declared.form.AdLine.{AdLine}
 use Rattle.desk_cli.specs.declared.form.LineName.{LineName}
 use Rattle.desk_cli.specs.HeadingValue.{HeadingValue}
 use Rattle.desk_cli.specs.Form.{is_skipped, heading_in, ad_in}
 use Rattle.desk_cli.specs.Told.{spoken, is_eligible, eligible_ads}
-use Rattle.desk_cli.specs.Judged.{heading_fault, ad_fault, form_fault, fault_at, or_else, first_fault, AuctionValue, auction_from, auction_of, unless_fault, told_by}
+use Rattle.desk_cli.specs.Judged.{heading_fault, ad_fault, form_fault, fault_at, or_else, first_fault, AuctionValue, auction_of, unless_fault, told_by}
 use Rattle.desk_cli.specs.Running.{end_of, line_fault, judged_rest, SoFar, nothing_yet, name_of, is_same_name, kept_ads, name_fault, ad_fault_now, with_ad, spoken_fault, spoken_step, fault_now, step}
 
 -- what is kept of the ads, where the heading is told
@@ -29,7 +28,7 @@ so_far_of [] = nothing_yet
 so_far_of (heading ∷ ads) = record {
   heading = heading_in heading;
   names = map name_of (filter_map ad_in ads);
-  eligible = kept_of (heading_in heading) (filter_map ad_in ads)
+  eligible = kept_of (heading_in heading) (filter_map ad_in ads);
 }
 
 -- the first of the texts tells a heading
@@ -110,8 +109,8 @@ with_ad-is : (told : HeadingValue) (heading : List ℕ) (ads : List (List ℕ)) 
 unfolding with_ad so_far_of
 with_ad-is told heading ads text line is_told is_ad =
     rw (is_told, ads-more ads text line is_ad)
-      (same_so_far (Some told) _ _ _ _ (sym (map-append name_of (filter_map ad_in ads) (line ∷ [])))
-        (sym (eligible_ads-more told (filter_map ad_in ads) line)))
+    (same_so_far (Some told) _ _ _ _ (sym (map-append name_of (filter_map ad_in ads) (line ∷ [])))
+    (sym (eligible_ads-more told (filter_map ad_in ads) line)))
 
 -- what is kept after a line that is not passed over and has no fault
 record Goes (texts : List (List ℕ)) (text : List ℕ) (so_far : SoFar) : Type 0 where
@@ -177,7 +176,7 @@ whole lines = auction_of (length lines + 1) (spoken lines)
 
 next-by : (before rest : List Line) (line : Line) (fault : Option AuctionFault) → HasHeading (spoken before) → fault_at before line ≡ fault →
     (HasHeading (spoken (before ++ line ∷ [])) →
-      judged_rest (so_far_of (spoken (before ++ line ∷ []))) (length (before ++ line ∷ [])) rest ≡ unless_fault (first_fault (before ++ line ∷ []) rest) (whole ((before ++ line ∷ []) ++ rest))) →
+    judged_rest (so_far_of (spoken (before ++ line ∷ []))) (length (before ++ line ∷ [])) rest ≡ unless_fault (first_fault (before ++ line ∷ []) rest) (whole ((before ++ line ∷ []) ++ rest))) →
     unless_fault fault (judged_rest (step (so_far_of (spoken before)) line.text) (length before + 1) rest)
     ≡ unless_fault (or_else fault (first_fault (before ++ line ∷ []) rest)) (whole (before ++ line ∷ rest))
 next-by before rest line (Some fault) h e more = refl

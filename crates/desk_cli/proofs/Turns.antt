@@ -1,10 +1,8 @@
 -- The turns of the loop that reads an auction.
-use Rattle.std.proofs.Common.{◌≡◌, ℕ, suc, ◌+◌, ◌-◌, ◌<◌, ◌≤◌, ◌^◌, List, [], ◌∷◌, ◌++◌, length, refl, sym, ◌∙◌, ap, arith, Bool, true, false, cond, subst}
+use Rattle.std.proofs.Common.{◌≡◌, ℕ, ◌+◌, ◌-◌, ◌<◌, ◌≤◌, List, [], ◌∷◌, ◌++◌, length, refl, sym, ◌∙◌, ap, arith, true, false, subst}
 use Rattle.std.specs.Prelude.{◌≢◌, Option, Some, None, IfSome, IfErr, Result, Ok, Err, nat_le, nat_lt}
 use Rattle.std.specs.Option.{option_map}
 use Rattle.std.proofs.lemmas.Bool.{le-leb, lt-leb, lt-ltb, le-ltb, cond-true, cond-false}
-use Rattle.std.proofs.lemmas.Bool.Decides.{nat_tests}
-use Rattle.desk_types.specs.AdValue.{AdValue}
 use Rattle.desk_io.specs.Lines.{Line, lines, first_line, after_first_line}
 use Rattle.desk_io.specs.NextLine.{ahead, IsFirstLine}
 use Rattle.desk_io.specs.Reader.{ReaderValue}
@@ -12,7 +10,7 @@ use Rattle.desk_io.proofs.LineLaws.{lines-cons, lines-nil, first_line-last}
 use Rattle.desk_cli.specs.declared.limits.TheConstants.{LINE_MAX, LINES_MAX}
 use Rattle.desk_cli.specs.declared.auction.Auction.{Auction}
 use Rattle.desk_cli.specs.declared.fault.AuctionFault.{AuctionFault}
-use Rattle.desk_cli.specs.declared.fault.AuctionFault.TheVariants.{BadLine, LongLine, TooManyLines}
+use Rattle.desk_cli.specs.declared.fault.AuctionFault.TheVariants.{LongLine, TooManyLines}
 use Rattle.desk_cli.specs.declared.fault.ReadEnd.{ReadEnd}
 use Rattle.desk_cli.specs.declared.fault.ReadEnd.TheVariants.{Fault, ReadFault, NoMemory}
 use Rattle.desk_cli.specs.Ending.{ReadEndCause, ReadsAs}
@@ -49,7 +47,7 @@ line-turn reading number text (Some bytes) from to first fault =
     let few : number - 1 < LINES_MAX = omega arith in
     let count : (number - 1) + 1 ≡ number = omega arith in
     let clean : line_fault reading (number - 1) (first_line bytes) ≡ None =
-      fault-short reading (number - 1) (first_line bytes) few first.short ∙ rw (count, ← first.same) fault in
+    fault-short reading (number - 1) (first_line bytes) few first.short ∙ rw (count, ← first.same) fault in
     let same : (number + 1) - 1 ≡ (number - 1) + 1 = omega arith in
     ap Some (rest-cons reading (number - 1) bytes first.there ∙ rw (clean, ← first.same, same) refl)
 
@@ -62,7 +60,7 @@ fault-turn reading number text fault (Some bytes) from to first found =
     let few : number - 1 < LINES_MAX = omega arith in
     let count : (number - 1) + 1 ≡ number = omega arith in
     let has : line_fault reading (number - 1) (first_line bytes) ≡ Some fault =
-      fault-short reading (number - 1) (first_line bytes) few first.short ∙ rw (count, ← first.same) found in
+    fault-short reading (number - 1) (first_line bytes) few first.short ∙ rw (count, ← first.same) found in
     rest-cons reading (number - 1) bytes first.there ∙ rw has refl
 
 end-turn : (reading : SoFar) (number : ℕ) (before : Option (List ℕ)) → 1 ≤ number →
@@ -235,14 +233,14 @@ pub whole-there : (whole rest : Option (List ℕ)) (reading reading' : SoFar) (n
     IfSome rest (λ bytes. bytes ≡ []) → IfSome whole (λ bytes. Tells (told_from reading 1 bytes) reading' (Ok last))
 whole-there whole rest reading reading' number last judged is from none =
     tells-whole (told_from reading 1) whole (option_map (told_from reading' number) rest) reading' (Ok last) judged
-      (subst (λ n. IfSome (option_map (told_from reading' number) rest) (λ told. Tells told reading' (Ok n))) is (tells-there rest reading' number from none))
+    (subst (λ n. IfSome (option_map (told_from reading' number) rest) (λ told. Tells told reading' (Ok n))) is (tells-there rest reading' number from none))
 
 pub whole-past : (whole rest : Option (List ℕ)) (reading reading' : SoFar) (number : ℕ) (end : ReadEnd) →
     option_map (told_from reading 1) whole ≡ option_map (told_from reading' number) rest → LINES_MAX < number →
     EndsThere rest (Err end) → IfSome whole (λ bytes. Tells (told_from reading 1 bytes) reading' (Err end))
 whole-past whole rest reading reading' number end judged many ends =
     tells-whole (told_from reading 1) whole (option_map (told_from reading' number) rest) reading' (Err end) judged
-      (tells-past rest reading' number (Err end) end many refl ends)
+    (tells-past rest reading' number (Err end) end many refl ends)
 
 -- an end that is no fault of reading needs no cause
 pub needs_no_cause : (before now : ℕ) (end : ReadEnd) → end ≢ ReadFault → ReadEndCause before now end

@@ -1,5 +1,5 @@
 -- How a call of the program ends.
-use Rattle.std.specs.Prelude.{◌≡◌, ◌≢◌, ℕ, ◌⊎◌, List, [], ◌∷◌, codes, Option, IfSome, Result, Ok, Err}
+use Rattle.std.specs.Prelude.{◌≡◌, ℕ, ◌⊎◌, List, [], ◌∷◌, codes, Option, IfSome, Result, Ok, Err}
 use Rattle.desk_io.specs.Faults.{Rose}
 use Rattle.desk_io.specs.Lines.{lines}
 use Rattle.desk_io.specs.Writing.{Appends, IsProperPrefix}
@@ -84,7 +84,7 @@ pub record IsWanting (written written_now : Option (List ℕ)) (taken taken_now 
 abbrev pub IsWritten : Option (List ℕ) → Option (List ℕ) → Option ℕ → Option ℕ → ℕ → ℕ → Outcome → ℕ → Type 0
 IsWritten written written_now taken taken_now faults faults_now outcome status =
     (IsAllWritten written written_now taken taken_now outcome status
-      ⊎ IsCutOff written written_now taken taken_now faults faults_now outcome status)
+    ⊎ IsCutOff written written_now taken taken_now faults faults_now outcome status)
     ⊎ IsWanting written written_now taken taken_now status
 
 -- what waited is written and the status answered; or a write failed and a beginning of it is written, and not all

@@ -1,5 +1,5 @@
 -- The forms of an auction's lines.
-use Rattle.std.specs.Prelude.{ℕ, Bool, true, false, ◌==◌, ◌&&◌, ◌||◌, not, nat_lt, ◌-◌, if◌then◌else◌, List, [], ◌∷◌, length, slice_index, Option, Some, None, filter, codes, bytes_eq}
+use Rattle.std.specs.Prelude.{ℕ, Bool, true, ◌==◌, ◌||◌, nat_lt, ◌-◌, if◌then◌else◌, List, [], ◌∷◌, length, slice_index, Option, Some, None, filter, codes, bytes_eq}
 use Rattle.std.specs.List.{slice_split}
 use Rattle.desk_types.specs.declared.limits.TheConstants.{BID_MIN, BID_MAX, QUALITY_MIN, QUALITY_MAX, FLOOR_MAX, PLACES_MAX}
 use Rattle.desk_cli.specs.declared.limits.TheConstants.{NUMBER_MAX, FREE_MAX}
@@ -62,7 +62,7 @@ abbrev pub ad_from : Option LineName → Option ℕ → Option ℕ → Option �
 ad_from (Some name) (Some bid) (Some quality) (Some free) =
     Some (record {
       ad = record { account = name.account; campaign = name.campaign; line = name.line; bid = bid; quality = quality };
-      free = free
+      free = free;
     })
 ad_from _ _ _ _ = None
 

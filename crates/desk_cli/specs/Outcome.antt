@@ -1,5 +1,5 @@
 -- What `auction` writes, and its status, for all bytes of an input.
-use Rattle.std.specs.Prelude.{ℕ, List, ◌++◌, map, flat_map, codes, decimal, Result, Ok, Err}
+use Rattle.std.specs.Prelude.{ℕ, List, ◌++◌, flat_map, codes, decimal, Result, Ok, Err}
 use Rattle.desk_types.specs.AdValue.{AdValue}
 use Rattle.desk_types.specs.Page.{entrants, place, page}
 use Rattle.desk_types.specs.Price.{price}

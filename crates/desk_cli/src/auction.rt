@@ -44,7 +44,11 @@ pub fn read_auction<S: Source>(alloc: Global, input: &mut S) -> Result<Auction, 
 }
 
 /// Takes the lines of the input, and answers the number of the line in whose place the end stands.
-fn read_lines<S: Source>(reader: &mut LineReader, reading: &mut Reading, input: &mut S) -> Result<u64, ReadEnd>
+fn read_lines<S: Source>(
+    reader: &mut LineReader,
+    reading: &mut Reading,
+    input: &mut S,
+) -> Result<u64, ReadEnd>
     requires max { reader.old.max ≡ LINE_MAX }
     ensures told { IfSome (ahead reader.old (S.left input.old)) (λ bytes. Tells (told_from reading.old 1 bytes) reading.new result) }
     ensures all_read { OnOk result (IfSome (S.left input.new) (λ bytes. bytes ≡ [])) }
@@ -63,7 +67,12 @@ fn read_lines<S: Source>(reader: &mut LineReader, reading: &mut Reading, input: 
 }
 
 /// Takes the numbered line, or answers `false` where the end stands in its place.
-fn take_line<S: Source>(reader: &mut LineReader, reading: &mut Reading, input: &mut S, number: u64) -> Result<bool, ReadEnd>
+fn take_line<S: Source>(
+    reader: &mut LineReader,
+    reading: &mut Reading,
+    input: &mut S,
+    number: u64,
+) -> Result<bool, ReadEnd>
     requires number { (1 ≤ number) × (number ≤ LINES_MAX) }
     requires max { reader.old.max ≡ LINE_MAX }
     ensures max { reader.new.max ≡ LINE_MAX }

@@ -128,7 +128,12 @@ pub fn ad_of(line: &[u8]) -> Option<AdLine>
 }
 
 /// The ad of a name and three numbers, where each is told; the bid and the quality are in range where they are.
-fn made_ad(name: Option<LineName>, bid: Option<u64>, quality: Option<u64>, free: Option<u64>) -> Option<AdLine>
+fn made_ad(
+    name: Option<LineName>,
+    bid: Option<u64>,
+    quality: Option<u64>,
+    free: Option<u64>,
+) -> Option<AdLine>
     requires bid { IfSome bid IsBid }
     requires quality { IfSome quality IsQuality }
     ensures { result ≡ ad_from name bid quality free }

@@ -18,9 +18,8 @@ mod top;
 
 use desk_io::{StdSink, StdSource};
 use std::alloc::{AllocError, Global};
-use std::env;
-use std::io;
 use std::process::ExitCode;
+use std::{env, io};
 
 fn main(rt: HostRuntime) -> ExitCode {
     let words = match words_of(&rt) {
@@ -41,3 +40,6 @@ fn words_of(rt: &HostRuntime) -> io::Result<Vec<String>> {
     }
     Ok(words)
 }
+
+#[cfg(test)]
+mod tests;

@@ -28,7 +28,6 @@ pub struct Reading {
 
 impl Model for Reading {
     ghost use Rattle.desk_cli.specs.Running.{SoFar};
-
     ghost use Rattle.desk_cli.specs.Meets.{AllMeet};
 
     ghost Value = { SoFar };

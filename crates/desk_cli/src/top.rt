@@ -24,7 +24,12 @@ use std::alloc::{AllocError, Global};
 /// | 5 | want of memory; nothing is written | - |
 /// | 8 | a line in no form, or the end before the heading | `bad line K` |
 /// | 9 | a line of more than 4,096 bytes, or more than 1,000,000 lines or 10,000 ads | `long line K` or `too many lines` |
-pub fn desk_top<S: Source, T: Sink>(alloc: Global, words: &[String], input: &mut S, output: &mut T) -> u8
+pub fn desk_top<S: Source, T: Sink>(
+    alloc: Global,
+    words: &[String],
+    input: &mut S,
+    output: &mut T,
+) -> u8
     ensures ended { (outcome : Outcome) × IsOutcome (map string_bytes words.now) (S.left input.old) (S.read_faults input.old) (S.read_faults input.new) outcome × IsWritten (T.written output.old) (T.written output.new) (T.taken output.old) (T.taken output.new) (T.write_faults output.old) (T.write_faults output.new) outcome result }
     ensures all_read { result ≡ 0 → IfSome (S.left input.new) (λ bytes. bytes ≡ []) }
     ensures read_faults { S.read_faults input.old ≤ S.read_faults input.new }

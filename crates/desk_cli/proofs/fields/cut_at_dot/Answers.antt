@@ -1,4 +1,4 @@
-use Rattle.std.proofs.Common.{◌≡◌, arith, sym, length, ◌<◌}
+use Rattle.std.proofs.Common.{arith, length, ◌<◌}
 use Rattle.std.specs.List.{position_or_len}
 use Rattle.std.specs.Prelude.{◌==◌}
 use Rattle.desk_cli.proofs.FieldLemmas.{parts_none, parts_first}

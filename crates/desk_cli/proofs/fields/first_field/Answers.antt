@@ -12,4 +12,4 @@ pub returns : goal.returns
 returns c =
     let long : 0 < length c.without_spaces-text.result.now = grind (arith, nat_tests) in
     rw (c.split_at.ensures.front, c.split_at.ensures.back, c.place_of.ensures.first)
-      (sym c.without_spaces-text.ensures.same ∙ fields_first c.without_spaces-text.result.now long c.without_spaces-text.ensures.begins)
+    (sym c.without_spaces-text.ensures.same ∙ fields_first c.without_spaces-text.result.now long c.without_spaces-text.ensures.begins)

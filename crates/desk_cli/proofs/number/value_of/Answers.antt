@@ -1,4 +1,3 @@
-use Rattle.std.proofs.Common.{rules, ◌≡◌}
 use Rattle.desk_cli.proofs.NumberLemmas.{numeral_parses, numeral-IsUtf8}
 use Rattle.desk_cli.proofs.number.value_of.Goals as goal
 

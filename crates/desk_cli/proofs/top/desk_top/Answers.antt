@@ -1,4 +1,4 @@
-use Rattle.std.proofs.Common.{refl, inl, inr}
+use Rattle.std.proofs.Common.{refl, inr}
 use Rattle.desk_cli.proofs.Answering.{some_judged}
 use Rattle.desk_cli.proofs.top.desk_top.Goals as goal
 

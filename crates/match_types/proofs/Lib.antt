@@ -1,0 +1,4 @@
+pub mod Causes
+pub mod Marked
+pub mod Phrases
+pub mod Spaces

@@ -1,5 +1,5 @@
 -- What `split` gives of a text that is cut where a test passes.
-use Rattle.std.proofs.Common.{◌≡◌, ℕ, ◌<◌, ◌≤◌, Bool, true, false, cond, List, [], ◌∷◌, ◌++◌, map, filter, length, take, drop, Option, Some, None, MatchOption, chars, encode_utf8, encode_utf8_all, refl, sym, ap, ap₂, subst, ◌∙◌, append_assoc, arith, take-append-drop, length-append, lt-ltb}
+use Rattle.std.proofs.Common.{◌≡◌, ℕ, ◌<◌, Bool, true, false, cond, List, [], ◌∷◌, ◌++◌, map, filter, length, take, drop, Option, Some, None, MatchOption, chars, encode_utf8, encode_utf8_all, refl, sym, ap, subst, ◌∙◌, append_assoc, arith, take-append-drop, length-append, lt-ltb}
 use denote.Param.Members.{Mut}
 use Rattle.std.specs.Borrow.{Bor}
 use Rattle.std.specs.Fn.{AlwaysReturns, Called}
@@ -14,7 +14,7 @@ use Rattle.std.proofs.lemmas.Iterator.Consumers.{YieldsList-end}
 use Rattle.std.proofs.lemmas.Iterator.Splits.{YieldsList-from_shown_while}
 use Rattle.std.proofs.lemmas.List.Elements.{All-nil, All-cons}
 use Rattle.std.proofs.lemmas.List.Splits.{slice_split_none, slice_split_at}
-use Rattle.std.proofs.lemmas.Str.{chars-nil, chars_past_char, IsUtf8-past_char, length-encode, len_utf8_bounds, chars_from_encodes}
+use Rattle.std.proofs.lemmas.Str.{chars_past_char, IsUtf8-past_char, length-encode, len_utf8_bounds, chars_from_encodes}
 use Rattle.query_words.specs.Words.{is_nonempty}
 
 All-from_NonePass : (test : ℕ → Bool) (cs : List ℕ) → NonePass test cs → All (λ c. test c ≡ false) cs

@@ -1,2 +1,2 @@
-pub mod Answer
+pub mod Limits
 pub mod Words

@@ -1,14 +1,14 @@
 // The words of a text: its key, cut into pieces.
 ghost use Rattle.std.specs.Prelude.{◌≡◌, map, filter, chars, encode_utf8_all, string_bytes, IfOk, OnOk, IfErr};
 ghost use Rattle.std.specs.List.{slice_split};
-ghost use Rattle.query_words.specs.Answer.{IsWithinLimits, HasCause};
+ghost use Rattle.query_words.specs.Limits.{IsWithinLimits, HasCause};
 ghost use Rattle.query_words.specs.Words.{key, is_cutting, is_nonempty, words_of};
 
 use crate::list::List;
 use crate::text::Text;
 use crate::word_list::Words;
 use caseless::default_case_fold_str;
-use std::alloc::{AllocError, Global};
+use std::alloc::{AllocError as NoMemory, Global};
 use thiserror::Error;
 use unicode_normalization::to_nfd;
 
@@ -54,7 +54,7 @@ pub fn words(alloc: Global, text: &str) -> Result<Words, WordsError>
 }
 
 /// The words of a text of any length.
-fn all_words(alloc: Global, text: &str) -> Result<List<Text>, AllocError>
+fn all_words(alloc: Global, text: &str) -> Result<List<Text>, NoMemory>
     ensures { IfOk result (λ found. found ≡ words_of text.now) }
 {
     let folded = folded(alloc, text)?;
@@ -62,7 +62,7 @@ fn all_words(alloc: Global, text: &str) -> Result<List<Text>, AllocError>
 }
 
 /// The key of a text. Of ASCII it is the text in lower case.
-fn folded(alloc: Global, text: &str) -> Result<String, AllocError>
+fn folded(alloc: Global, text: &str) -> Result<String, NoMemory>
     ensures { IfOk result (λ folded. string_bytes folded ≡ encode_utf8_all (key text.now)) }
 {
     if text.is_ascii() {
@@ -74,7 +74,7 @@ fn folded(alloc: Global, text: &str) -> Result<String, AllocError>
 }
 
 /// The pieces of a text between cutting characters that are not empty.
-fn pieces(alloc: Global, text: &str) -> Result<List<Text>, AllocError>
+fn pieces(alloc: Global, text: &str) -> Result<List<Text>, NoMemory>
     ensures { IfOk result (λ found. found ≡ map encode_utf8_all (filter is_nonempty (slice_split is_cutting (chars text.now)))) }
 {
     let mut found = Vec::new(alloc);

@@ -9,6 +9,8 @@
 mod cut;
 mod laws;
 mod list;
+#[cfg(test)]
+mod tests;
 mod text;
 mod twin;
 mod word_list;

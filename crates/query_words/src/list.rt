@@ -2,7 +2,7 @@
 ghost use Rattle.std.specs.Prelude.{◌≡◌, [], ◌∷◌, ◌++◌, IfErr, OnOk, OnErr};
 
 use crate::twin::Twin;
-use std::alloc::{AllocError, Global};
+use std::alloc::{AllocError as NoMemory, Global};
 use std::marker::Model;
 
 /// A list of items. Contracts see it as the items, in order.
@@ -68,7 +68,7 @@ impl<T> List<T> {
 }
 
 impl<T: Twin> Twin for List<T> {
-    fn twin(&self) -> Result<Self, AllocError> {
+    fn twin(&self) -> Result<Self, NoMemory> {
         let mut copy = Vec::new(*self.items.allocator());
         for item in &self.items {
             copy.push(item.twin()?)?;

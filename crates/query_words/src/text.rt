@@ -4,7 +4,7 @@ ghost use Rattle.std.specs.Cmp.{partial_equiv_from_equiv};
 ghost use Rattle.std.specs.Cmp.Lexicographic.{pointwise, nat_list_eq_equiv};
 
 use crate::twin::Twin;
-use std::alloc::{AllocError, Global};
+use std::alloc::{AllocError as NoMemory, Global};
 use std::marker::Model;
 
 /// A text of UTF-8. Contracts see it as its list of bytes.
@@ -21,7 +21,7 @@ impl Model for Text {
 
 impl Text {
     /// A text with these bytes, or want of memory.
-    pub fn new(alloc: Global, text: &str) -> Result<Self, AllocError>
+    pub fn new(alloc: Global, text: &str) -> Result<Self, NoMemory>
         ensures { IfOk result (λ made. made ≡ text.now) }
     {
         Ok(Text {
@@ -38,7 +38,7 @@ impl Text {
 }
 
 impl Twin for Text {
-    fn twin(&self) -> Result<Self, AllocError> {
+    fn twin(&self) -> Result<Self, NoMemory> {
         Ok(Text {
             text: self.text.clone()?,
         })

@@ -4,7 +4,7 @@ ghost use Rattle.std.specs.Prelude.{◌≡◌, ℕ, List as Items};
 use crate::list::List;
 use crate::text::Text;
 use crate::twin::Twin;
-use std::alloc::AllocError;
+use std::alloc::AllocError as NoMemory;
 use std::marker::Model;
 
 /// Words in the order of their text. Contracts see them as a list of byte lists.
@@ -36,7 +36,7 @@ impl Words {
 }
 
 impl Twin for Words {
-    fn twin(&self) -> Result<Self, AllocError> {
+    fn twin(&self) -> Result<Self, NoMemory> {
         Ok(Words {
             words: self.words.twin()?,
         })

@@ -10,6 +10,8 @@ mod kind;
 mod matching;
 mod pattern;
 mod reading;
+#[cfg(test)]
+mod tests;
 
 pub use kind::MatchType;
 pub use matching::{exact_is_phrase, matches, phrase_is_broad};

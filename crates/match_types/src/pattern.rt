@@ -10,8 +10,8 @@ use crate::reading::{
     PATTERN_BYTES, PATTERN_WORDS, PatternError, begins_with_minus, drop_minus, trim_spaces,
     unmarked,
 };
-use query_words::{Text, Twin, Words, WordsError, words};
-use std::alloc::{AllocError, Global};
+use query_words::{NoMemory, Text, Twin, Words, WordsError, words};
+use std::alloc::Global;
 use std::marker::Model;
 
 /// A keyword pattern. Contracts see it as its text; its kind and its words follow from that.
@@ -66,10 +66,12 @@ impl Pattern {
         ensures accepted { OnOk result (negative_refusal text.now ≡ None) }
         ensures refused { IfErr result (λ cause. cause ≢ PatternError.NoMemory → negative_refusal text.now ≡ Some cause) }
     {
-        if text.len() > PATTERN_BYTES {
+        let unsigned = drop_minus(trim_spaces(text));
+        let length = text.len();
+        if length > PATTERN_BYTES {
             return Err(PatternError::TooLong);
         }
-        Pattern::read(alloc, drop_minus(trim_spaces(text)))
+        Pattern::read(alloc, unsigned)
     }
 
     /// The text that was read, without its end spaces and, of a negative, without the `-`. Reading
@@ -107,7 +109,7 @@ impl Pattern {
 }
 
 impl Twin for Pattern {
-    fn twin(&self) -> Result<Self, AllocError> {
+    fn twin(&self) -> Result<Self, NoMemory> {
         Ok(Pattern {
             text: self.text.twin()?,
             kind: self.kind,

@@ -1,16 +1,23 @@
 // Whether a pattern's words meet a query's.
-ghost use Rattle.std.specs.Prelude.{◌↔◌, IsTrue, All, Contains};
+ghost use Rattle.std.specs.Prelude.{◌≡◌, ◌↔◌, IsTrue, All, Contains};
 ghost use Rattle.match_types.specs.Meets.{Meets, HasPhrase};
+ghost use Rattle.match_types.specs.Tests.{meets};
 
 use crate::kind::MatchType;
 use query_words::{Text, Words};
 
 /// Whether the words of a query meet those of a pattern of this kind. It takes no memory.
 pub fn matches(kind: MatchType, pattern: &Words, query: &Words) -> bool
-    ensures { IsTrue result ↔ Meets kind pattern.now query.now }
+    ensures meaning { IsTrue result ↔ Meets kind pattern.now query.now }
+    ensures test { result ≡ meets kind pattern.now query.now }
 {
-    let wanted = pattern.as_slice();
-    let words = query.as_slice();
+    is_met(kind, pattern.as_slice(), query.as_slice())
+}
+
+/// The same of lists of words.
+fn is_met(kind: MatchType, wanted: &[Text], words: &[Text]) -> bool
+    ensures { IsTrue result ↔ Meets kind wanted.now words.now }
+{
     match kind {
         MatchType::Exact => words == wanted,
         MatchType::Phrase => has_phrase(words, wanted),

@@ -3,6 +3,7 @@ ghost use Rattle.std.specs.Prelude.{◌≡◌, ◌≢◌, ◌≤◌, ◌↔◌, 
 ghost use Rattle.query_words.specs.Words.{words_of};
 ghost use Rattle.match_types.specs.Marks.{trimmed, kind_of};
 ghost use Rattle.match_types.specs.Pattern.{words_in, refusal, negative_text, negative_refusal, words_cause, IsPattern, IsSamePattern};
+ghost use Rattle.match_types.specs.Tests.{is_same_pattern};
 
 use crate::kind::MatchType;
 use crate::matching::matches;
@@ -102,7 +103,8 @@ impl Pattern {
 
     /// Whether the two have the same kind and the same words, in order.
     pub fn is_same(&self, other: &Pattern) -> bool
-        ensures { IsTrue result ↔ IsSamePattern self.now other.now }
+        ensures meaning { IsTrue result ↔ IsSamePattern self.now other.now }
+        ensures test { result ≡ is_same_pattern self.now other.now }
     {
         self.kind == other.kind && matches(MatchType::Exact, &self.words, &other.words)
     }

@@ -1,8 +1,6 @@
-use Rattle.match_types.proofs.Phrases.{Exact-from_eq, Broad-from_words}
+use Rattle.std.proofs.lemmas.Bool.Decides.{same_from_decides}
+use Rattle.match_types.proofs.Deciding.{meets-decides}
 use Rattle.match_types.proofs.matching.matches.Goals as goal
 
-pub returns-in-Exact : goal.returns-in-Exact
-returns-in-Exact c = rw (← c.as_slice-wanted.ensures, ← c.as_slice-words.ensures) (Exact-from_eq _ _ _ _ c.in-Exact.is c.eq.ensures)
-
-pub returns-in-Broad : goal.returns-in-Broad
-returns-in-Broad c = rw (← c.as_slice-wanted.ensures, ← c.as_slice-words.ensures) (Broad-from_words _ _ _ _ c.in-Broad.is c.has_words.ensures)
+pub returns-clause-test : goal.returns-clause-test
+returns-clause-test c = rw (← c.as_slice.ensures, ← c.as_slice-2.ensures) (same_from_decides _ _ c.is_met.ensures (meets-decides _ _ _))

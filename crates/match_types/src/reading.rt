@@ -15,7 +15,7 @@ pub const PATTERN_WORDS: usize = 10;
 #[derive(Clone, Copy, Debug, PartialEq, Eq, Error)]
 pub enum PatternError {
     /// The text has more than `PATTERN_BYTES` bytes, spaces at its ends among them.
-    #[error("the pattern has more than 80 bytes")]
+    #[error("the pattern has more than {most} bytes", most = PATTERN_BYTES)]
     TooLong,
     /// The text without the spaces at its ends begins with `-`.
     #[error("the pattern begins with `-`")]
@@ -27,7 +27,7 @@ pub enum PatternError {
     #[error("the pattern has no word")]
     NoWords,
     /// It has more than `PATTERN_WORDS` words.
-    #[error("the pattern has more than 10 words")]
+    #[error("the pattern has more than {most} words", most = PATTERN_WORDS)]
     TooMany,
     /// Memory was wanted.
     #[error("out of memory")]

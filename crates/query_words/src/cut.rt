@@ -22,10 +22,10 @@ pub const QUERY_WORDS: usize = 32;
 #[derive(Clone, Copy, Debug, PartialEq, Eq, Error)]
 pub enum WordsError {
     /// The text has this many bytes, more than `QUERY_BYTES`.
-    #[error("the text has {0} bytes, more than 1,024")]
+    #[error("the text has {0} bytes, more than {most}", most = QUERY_BYTES)]
     TooLong(u64),
     /// The text has this many words, more than `QUERY_WORDS`.
-    #[error("the text has {0} words, more than 32")]
+    #[error("the text has {0} words, more than {most}", most = QUERY_WORDS)]
     TooMany(u64),
     /// Memory was wanted.
     #[error("out of memory")]

@@ -1,0 +1,4 @@
+pub mod LogLemmas
+pub mod ViewLemmas
+pub mod LineKeeps
+pub mod RuleKeeps

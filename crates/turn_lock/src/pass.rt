@@ -1,0 +1,34 @@
+//! What a caller holds between its turns.
+ghost use Rattle.std.specs.Prelude.{◌≡◌, true};
+ghost use Rattle.turn_lock.specs.Views.{is_live};
+
+use crate::grows::Grows;
+use crate::view::View;
+use atomic_table::Seat;
+use std::marker::Model;
+
+/// A caller's right to enter one lock. Contracts see which lock it is of, its number and the list that it has seen.
+#[derive(Drop)]
+pub struct Pass<V: Grows> {
+    pub(crate) seat: Seat<Option<V>, View<V::Item, V::Name>>,
+    ghost live: { is_live seat.me.0 ≡ true },
+}
+
+impl<V: Grows> Model for Pass<V> {
+    ghost use Rattle.turn_lock.specs.Held.{PassValue, pass_code, pass_value, IsAway};
+    ghost use Rattle.turn_lock.specs.Views.{known_of};
+
+    ghost Value = { PassValue V.Item V.Name };
+
+    ghost coded = { pass_code V.Item.code V.Name.code };
+
+    ghost view = { λ p. pass_value p.seat.table_id (known_of p.seat.me.0 p.live) };
+
+    ghost invariant = { λ p. IsAway (known_of p.seat.me.0 p.live) p.seat.me.1 };
+}
+
+fn goes<T: Send>(_: &T) {}
+
+fn pass_goes<V: Grows + Send>(pass: &Pass<V>) {
+    goes(pass);
+}

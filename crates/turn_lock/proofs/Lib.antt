@@ -2,3 +2,4 @@ pub mod LogLemmas
 pub mod ViewLemmas
 pub mod LineKeeps
 pub mod RuleKeeps
+pub mod StepKeeps

@@ -3,3 +3,4 @@ pub mod ViewLemmas
 pub mod LineKeeps
 pub mod RuleKeeps
 pub mod StepKeeps
+pub mod SeatKeeps

@@ -6,7 +6,7 @@ use mathlib.Core.Option.{some, some-injective}
 use mathlib.Core.Logic.{dite}
 use native.Mathlib.Decide.{ℕ_discrete}
 use lib.ListN.{get_elem?}
-use Rattle.atomic_table.proofs.Lists.{at_set, at_snoc}
+use Rattle.atomic_table.proofs.Lists.{at_snoc}
 use Rattle.turn_lock.specs.declared.view.Place.{Place}
 use Rattle.turn_lock.specs.declared.view.Place.TheVariants.{Away, Waiting, Inside}
 use Rattle.turn_lock.specs.declared.view.Known.{Known}
@@ -14,7 +14,7 @@ use Rattle.turn_lock.specs.declared.view.View.{View}
 use Rattle.turn_lock.specs.declared.view.View.TheVariants.{Live, Spent}
 use Rattle.turn_lock.specs.Views.{Knows}
 use Rattle.turn_lock.specs.Line.{ticket_of, has_ticket, IsLine}
-use Rattle.turn_lock.proofs.ViewLemmas.{knows_set, count_by-set, live_same, live_not_spent}
+use Rattle.turn_lock.proofs.ViewLemmas.{knows_set, count_by-set, knows_spent, live_same}
 
 module _ {I N : Type 0} where
   -- after the change of one seat, whose ticket no other has
@@ -101,10 +101,7 @@ module _ {I N : Type 0} where
   -- join: the seat that is spent had no ticket
   pub line_spent : (served drawn : ℕ) (views : List (View I N)) (other : ℕ) (k : Known I N) → IsLine served drawn views → Knows views other k → k.place ≡ Away → IsLine served drawn (set views other Spent)
   line_spent served drawn views other k line at away =
-      let old : (seat : ℕ) (l : Known I N) → Knows (set views other Spent) seat l → Knows views seat l = λ seat l there. ⊎_elim
-          (λ (h : (seat ≡ other) × (let spent : View I N = Spent in spent ≡ Live l)). absurd (live_not_spent l h.1))
-          (λ (h : (seat ≢ other) × Knows views seat l). h.1)
-          (at_set views other seat Spent (Live l) there) in record {
+      let old : (seat : ℕ) (l : Known I N) → Knows (set views other Spent) seat l → Knows views seat l = λ seat l there. (knows_spent views other seat l there).1 in record {
     within = λ seat l t there is. line.within seat l t (old seat l there) is;
     apart = λ seat seat' l l' t there there' is is'. line.apart seat seat' l l' t (old seat l there) (old seat' l' there') is is';
     each =

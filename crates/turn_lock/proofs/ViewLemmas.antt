@@ -29,6 +29,13 @@ module _ {I N : Type 0} where
   pub knows_set : (views : List (View I N)) (me : ℕ) (w : Known I N) (seat : ℕ) (k : Known I N) → Knows (set views me (Live w)) seat k → ((seat ≡ me) × (w ≡ k)) ⊎ ((seat ≢ me) × Knows views seat k)
   knows_set views me w seat k e = ⊎_elim (λ (t : (seat ≡ me) × (Live w ≡ Live k)). inl (t.0, live_same w k t.1)) (λ (t : (seat ≢ me) × Knows views seat k). inr t) (at_set views me seat (Live w) (Live k) e)
 
+  -- after one seat was spent, a live seat is another
+  pub knows_spent : (views : List (View I N)) (other seat : ℕ) (k : Known I N) → Knows (set views other Spent) seat k → (seat ≢ other) × Knows views seat k
+  knows_spent views other seat k e = ⊎_elim
+      (λ (t : (seat ≡ other) × (let spent : View I N = Spent in spent ≡ Live k)). absurd (live_not_spent k t.1))
+      (λ (t : (seat ≢ other) × Knows views seat k). t)
+      (at_set views other seat Spent (Live k) e)
+
   pub seat_below : (views : List (View I N)) (seat : ℕ) (v : View I N) → get_elem? views seat ≡ some v → seat < length views
   seat_below [] seat v e = absurd (some-ne-none v (sym e))
   seat_below (x ∷ xs) zero v e = omega arith

@@ -4,3 +4,5 @@ pub mod LineKeeps
 pub mod RuleKeeps
 pub mod StepKeeps
 pub mod SeatKeeps
+pub mod HeldLemmas
+pub mod TurnLemmas

@@ -1,13 +1,13 @@
 -- Each kind of step keeps the rule, and tells its seat what it should.
-use Rattle.std.proofs.Common.{◌≡◌, ◌≢◌, ℕ, zero, suc, ◌+◌, ◌^◌, ◌%◌, ◌<◌, ◌≤◌, List, [], ◌∷◌, ◌++◌, ◌⊎◌, length, set, refl, sym, ap, ◌∙◌, inl, inr, ⊎_elim, subst, Bool, true, false, arith, length-set}
-use Rattle.std.specs.Prelude.{Option, Some, None, All}
+use Rattle.std.proofs.Common.{◌≡◌, ◌≢◌, ℕ, zero, suc, ◌+◌, ◌^◌, ◌%◌, ◌<◌, ◌≤◌, List, [], ◌∷◌, ◌++◌, ◌⊎◌, length, set, refl, sym, ap, ◌∙◌, inl, inr, ⊎_elim, subst, Bool, true, false, arith, eq-eqb, ne_eqb}
+use Rattle.std.specs.Prelude.{Option, Some, None, ◌==◌, MatchBool}
 use Rattle.std.proofs.Math.Nat.{mod-add-mod}
 use Rattle.std.proofs.lemmas.List.Sums.{count_by-le-length}
 use mathlib.Core.Option.{Option as Maybe, some, none}
 use mathlib.Core.Logic.{dite}
 use native.Mathlib.Decide.{ℕ_discrete}
 use lib.ListN.{get_elem?, get_or}
-use Rattle.atomic_table.specs.Table.{State, Me, Step, Act, keeps, takes, gives, Valid, stepped, carried_after, Allows}
+use Rattle.atomic_table.specs.Table.{State, Act, keeps, takes, gives, Valid, stepped, carried_after, Allows}
 use lib.Seq.{set-get_or}
 use Rattle.atomic_table.proofs.Lists.{set_here, set_else, one_turn}
 use Rattle.turn_lock.specs.declared.view.Place.{Place}
@@ -19,7 +19,7 @@ use Rattle.turn_lock.specs.Lists.{IsPrefix, items_by, GrowsBy}
 use Rattle.turn_lock.specs.Views.{Knows, IsSpent}
 use Rattle.turn_lock.specs.Line.{IsLine, ticket_of, has_ticket}
 use Rattle.turn_lock.specs.Rule.{IsHome, IsOut, Fits, TakesTurns}
-use Rattle.turn_lock.specs.Steps.{Sat, at_place, seeing, drawn, passed, noted, Enters, looked}
+use Rattle.turn_lock.specs.Steps.{Seated, at_place, seeing, MayDraw, Draws, MayLook, Enters, ComesIn, Looks, MayNote, Notes, MayPassOn, PassesOn}
 use Rattle.turn_lock.proofs.LogLemmas.{prefix_same, grows_same}
 use Rattle.turn_lock.proofs.ViewLemmas.{knows_set, knows_one, live_same, seat_below}
 use Rattle.turn_lock.proofs.LineKeeps.{line_same, line_drawn, line_passed}
@@ -42,8 +42,8 @@ module _ {V I N : Type 0} (items : V → List I) (by : I → ℕ) (name : V → 
       let most = count_by-le-length (has_ticket {I = I} {N = N}) s.views in
       one_turn r.served t (2 ^ 64) h.0 (omega arith) e
 
-  pub draws : (st : Step (Option V)) (slots me : ℕ) (k : Known I N) → k.place ≡ Away → Allows R slots me (Live k, []) 0 (λ n. (n + 1) % 2 ^ 64) (drawn st (Live k, []))
-  draws st slots me k away s r _ at _ =
+  pub draws : (slots me : ℕ) (k : Known I N) → k.place ≡ Away → Allows R slots me (Live k, []) 0 (λ n. (n + 1) % 2 ^ 64) (Draws (Live k, []))
+  draws slots me k away s r _ at _ =
       let t : ℕ = r.drawn in
       let w : Known I N = at_place k (Waiting t) in
       let word : get_or s.words 0 0 ≡ t % 2 ^ 64 = ap (λ (ws : List ℕ). get_or ws 0 0) r.words in
@@ -63,13 +63,13 @@ module _ {V I N : Type 0} (items : V → List I) (by : I → ℕ) (name : V → 
             f.own
             (λ u e. absurd (new u e))
             (λ seat l u _ there inside. (r.fits seat l there).turn u inside),
-        (λ k' e. (t, word, ap (λ (x : Known I N). (Live (at_place x (Waiting t)), [])) (live_same k k' (ap (λ (m : Sat V I N). m.0) e)))),
+        (λ k' e. (t, word, ap (λ (x : Known I N). (Live (at_place x (Waiting t)), [])) (live_same k k' (ap (λ (m : Seated V I N). m.0) e)))),
       )
 
-  held_same : (k k' : Known I N) (value value' : V) → (let a : Sat V I N = (Live k, (0, Some value) ∷ []) in let b : Sat V I N = (Live k', (0, Some value') ∷ []) in a ≡ b) → (k ≡ k') × (value ≡ value')
+  held_same : (k k' : Known I N) (value value' : V) → (let a : Seated V I N = (Live k, (0, Some value) ∷ []) in let b : Seated V I N = (Live k', (0, Some value') ∷ []) in a ≡ b) → (k ≡ k') × (value ≡ value')
   held_same k k' value value' e =
-      let values : Some value ≡ Some value' = ap (λ (m : Sat V I N). (get_or m.1 0 (0, Some value)).1) e in
-      (live_same k k' (ap (λ (m : Sat V I N). m.0) e), cc)
+      let values : Some value ≡ Some value' = ap (λ (m : Seated V I N). (get_or m.1 0 (0, Some value)).1) e in
+      (live_same k k' (ap (λ (m : Seated V I N). m.0) e), cc)
 
   -- where the ticket is served nobody is in, so the value is at home
   at_home : (s : State (Option V) (View I N)) (r : R s) (me t : ℕ) (k : Known I N) → Knows s.views me k → k.place ≡ Waiting t → r.served ≡ t → IsHome items by name called r.log s.homes s.views
@@ -82,17 +82,17 @@ module _ {V I N : Type 0} (items : V → List I) (by : I → ℕ) (name : V → 
           let clash : Waiting t ≡ Inside h.ticket = sym waits ∙ (ap (λ (x : Known I N). x.place) one ∙ h.inside) in absurd cc)
       r.slot
 
-  tells : (st : Step (Option V)) (k : Known I N) (t n : ℕ) (after : Sat V I N) → k.place ≡ Waiting t → (n ≡ t % 2 ^ 64 → Enters items by name k t after) × (n ≢ t % 2 ^ 64 → after ≡ (Live k, []))
-      → looked items by name st (Live k, []) n after
-  tells st k t n after waits told k' t' e waits' =
-      let same : k ≡ k' = live_same k k' (ap (λ (m : Sat V I N). m.0) e) in
+  tells : (k : Known I N) (t n : ℕ) (after : Seated V I N) → k.place ≡ Waiting t → (n ≡ t % 2 ^ 64 → Enters items by name k t after) × (n ≢ t % 2 ^ 64 → after ≡ (Live k, []))
+      → Looks items by name (Live k, []) n after
+  tells k t n after waits told k' t' e waits' =
+      let same : k ≡ k' = live_same k k' (ap (λ (m : Seated V I N). m.0) e) in
       let ticket : t ≡ t' = let clash : Waiting t ≡ Waiting t' = sym waits ∙ (ap (λ (x : Known I N). x.place) same ∙ waits') in cc in
       subst (λ (x : Known I N × ℕ). (n ≡ x.1 % 2 ^ 64 → Enters items by name x.0 x.1 after) × (n ≢ x.1 % 2 ^ 64 → after ≡ (Live k, []))) (λ i. (same i, ticket i)) told
 
   -- where the ticket is served, the seat comes in
-  comes_in : (st : Step (Option V)) (s : State (Option V) (View I N)) (r : R s) (me t : ℕ) (k : Known I N) → Knows s.views me k → k.place ≡ Waiting t → r.served ≡ t → get_or s.words 1 0 ≡ t % 2 ^ 64
-      → (w : View I N) × (a : Act (Option V)) × Valid s.homes [] a × R (stepped s 1 (get_or s.words 1 0) me [] w a) × looked items by name st (Live k, []) (get_or s.words 1 0) (w, carried_after [] a)
-  comes_in st s r me t k at waits same found =
+  comes_in : (s : State (Option V) (View I N)) (r : R s) (me t : ℕ) (k : Known I N) → Knows s.views me k → k.place ≡ Waiting t → r.served ≡ t → get_or s.words 1 0 ≡ t % 2 ^ 64
+      → (w : View I N) × (a : Act (Option V)) × Valid s.homes [] a × R (stepped s 1 (get_or s.words 1 0) me [] w a) × Looks items by name (Live k, []) (get_or s.words 1 0) (w, carried_after [] a)
+  comes_in s r me t k at waits same found =
       let h = at_home s r me t k at waits same in
       let f = r.fits me k at in
       let log : List I = items h.value in
@@ -112,26 +112,26 @@ module _ {V I N : Type 0} (items : V → List I) (by : I → ℕ) (name : V → 
             (ap (items_by by k.number) (sym list))
             (λ u e. (let clash : Inside t ≡ Inside u = e in let tu : t ≡ u = cc in sym tu ∙ sym same, list))
             (λ seat l u _ there inside. (r.fits seat l there).turn u inside),
-        tells st k t (get_or s.words 1 0) (Live w, (0, Some h.value) ∷ []) waits
+        tells k t (get_or s.words 1 0) (Live w, (0, Some h.value) ∷ []) waits
             ((λ _. record { value = h.value; out = refl; prefix = prefix; own = own; named = h.named ∙ sym f.named }), (λ n. absurd (n found))),
       )
 
-  pub looks : (st : Step (Option V)) (slots me t : ℕ) (k : Known I N) → k.place ≡ Waiting t → Allows R slots me (Live k, []) 1 (λ n. n) (looked items by name st (Live k, []))
-  looks st slots me t k waits s r _ at _ = dite (ℕ_discrete (get_or s.words 1 0) (t % 2 ^ 64))
+  pub looks : (slots me t : ℕ) (k : Known I N) → k.place ≡ Waiting t → Allows R slots me (Live k, []) 1 (λ n. n) (Looks items by name (Live k, []))
+  looks slots me t k waits s r _ at _ = dite (ℕ_discrete (get_or s.words 1 0) (t % 2 ^ 64))
       (λ found.
           let word : get_or s.words 1 0 ≡ r.served % 2 ^ 64 = ap (λ (ws : List ℕ). get_or ws 1 0) r.words in
-          comes_in st s r me t k at waits (served_is s r me t k at (ap ticket_of waits) (sym word ∙ found)) found)
+          comes_in s r me t k at waits (served_is s r me t k at (ap ticket_of waits) (sym word ∙ found)) found)
       (λ other. (
         Live k,
         keeps,
         tt,
         keeps_same items by name called callers s r me (Live k) 1 at,
-        tells st k t (get_or s.words 1 0) (Live k, []) waits ((λ found. absurd (other found)), (λ _. refl)),
+        tells k t (get_or s.words 1 0) (Live k, []) waits ((λ found. absurd (other found)), (λ _. refl)),
       ))
 
-  pub notes : (st : Step (Option V)) (slots me t n : ℕ) (k : Known I N) (value : V) → k.place ≡ Inside t → GrowsBy by k.number k.seen (items value) → n ≡ length (items value)
-      → Allows R slots me (Live k, (0, Some value) ∷ []) 2 (λ _. n) (noted items st (Live k, (0, Some value) ∷ []))
-  notes st slots me t n k value inside grew long s r _ at _ =
+  pub notes : (slots me t n : ℕ) (k : Known I N) (value : V) → k.place ≡ Inside t → GrowsBy by k.number k.seen (items value) → n ≡ length (items value)
+      → Allows R slots me (Live k, (0, Some value) ∷ []) 2 (λ _. n) (λ _. Notes items (Live k, (0, Some value) ∷ []))
+  notes slots me t n k value inside grew long s r _ at _ =
       let log : List I = items value in
       let w : Known I N = seeing k log in
       let f = r.fits me k at in
@@ -154,9 +154,9 @@ module _ {V I N : Type 0} (items : V → List I) (by : I → ℕ) (name : V → 
         (λ k' value' e. let h = held_same k k' value value' e in λ i. (Live (seeing (h.0 i) (items (h.1 i))), (0, Some (h.1 i)) ∷ [])),
       )
 
-  pub passes : (st : Step (Option V)) (slots me t : ℕ) (k : Known I N) (value : V) → k.place ≡ Inside t → items value ≡ k.seen → name value ≡ k.name
-      → Allows R slots me (Live k, (0, Some value) ∷ []) 1 (λ n. (n + 1) % 2 ^ 64) (passed st (Live k, (0, Some value) ∷ []))
-  passes st slots me t k value inside list named s r _ at _ =
+  pub passes : (slots me t : ℕ) (k : Known I N) (value : V) → k.place ≡ Inside t → items value ≡ k.seen → name value ≡ k.name
+      → Allows R slots me (Live k, (0, Some value) ∷ []) 1 (λ n. (n + 1) % 2 ^ 64) (λ _. PassesOn (Live k, (0, Some value) ∷ []))
+  passes slots me t k value inside list named s r _ at _ =
       let w : Known I N = at_place k Away in
       let f = r.fits me k at in
       let turn = f.turn t inside in
@@ -187,3 +187,26 @@ module _ {V I N : Type 0} (items : V → List I) (by : I → ℕ) (name : V → 
             (λ seat l u other there inside'. absurd (nobody seat l u other there inside')),
         (λ k' value' e. let h = held_same k k' value value' e in λ i. (Live (at_place (h.0 i) Away), [])),
       )
+
+  -- the same for a seat that may make the step
+  pub may_draw : (slots id : ℕ) (me : Seated V I N) → MayDraw me → Allows R slots id me 0 (λ n. (n + 1) % 2 ^ 64) (Draws me)
+  may_draw slots id me h = subst (λ (m : Seated V I N). Allows R slots id m 0 (λ n. (n + 1) % 2 ^ 64) (Draws m)) (sym h.is) (draws slots id h.known h.away)
+
+  pub may_look : (slots id n : ℕ) (me : Seated V I N) → MayLook me n → Allows R slots id me 1 (λ m. m) (Looks items by name me)
+  may_look slots id n me h = subst (λ (m : Seated V I N). Allows R slots id m 1 (λ m. m) (Looks items by name m)) (sym h.is) (looks slots id h.ticket h.known h.waits)
+
+  pub may_note : (slots id n : ℕ) (me : Seated V I N) → MayNote items by me n → Allows R slots id me 2 (λ _. n) (λ _. Notes items me)
+  may_note slots id n me h = subst (λ (m : Seated V I N). Allows R slots id m 2 (λ _. n) (λ _. Notes items m)) (sym h.is) (notes slots id h.ticket n h.known h.value h.inside h.grew h.long)
+
+  pub may_pass_on : (slots id : ℕ) (me : Seated V I N) → MayPassOn items name me → Allows R slots id me 1 (λ n. (n + 1) % 2 ^ 64) (λ _. PassesOn me)
+  may_pass_on slots id me h = subst (λ (m : Seated V I N). Allows R slots id m 1 (λ n. (n + 1) % 2 ^ 64) (λ _. PassesOn m)) (sym h.is) (passes slots id h.ticket h.known h.value h.inside h.list h.named)
+
+module _ {V I N : Type 0} (items : V → List I) (by : I → ℕ) (name : V → N) where
+  -- what a look says
+  pub looked : (found ticket : ℕ) (before after : Seated V I N) → MayLook before ticket → Looks items by name before found after → MatchBool (found == ticket) (ComesIn items by name before after) (after ≡ before)
+  looked found ticket before after h looks = dite (ℕ_discrete found ticket)
+      (λ same. rw (eq-eqb found ticket same) (λ k t is waits.
+          let one : h.known ≡ k = live_same h.known k (ap (λ (m : Seated V I N). m.0) (sym h.is ∙ is)) in
+          let tickets : h.ticket ≡ t = let e : Waiting h.ticket ≡ Waiting t = sym h.waits ∙ (ap (λ (x : Known I N). x.place) one ∙ waits) in cc in
+          (looks k t is waits).0 (same ∙ (h.same ∙ ap (λ (n : ℕ). n % 2 ^ 64) tickets))))
+      (λ other. rw (ne_eqb found ticket other) ((looks h.known h.ticket h.is h.waits).1 (λ e. other (e ∙ sym h.same))))

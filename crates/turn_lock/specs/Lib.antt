@@ -4,3 +4,4 @@ pub mod Line
 pub mod Rule
 pub mod Steps
 pub mod Held
+pub mod Passes

@@ -1,14 +1,17 @@
--- What each kind of step tells the seat that makes it.
-use Rattle.std.specs.Prelude.{◌≡◌, ◌≢◌, ℕ, ◌+◌, ◌^◌, ◌%◌, true, false, List, [], ◌∷◌, Option, Some, None}
-use Rattle.atomic_table.specs.Table.{Me, Step}
+-- Each kind of step: what it asks of the seat that makes it, and what it tells it.
+use Rattle.std.specs.Prelude.{◌≡◌, ◌≢◌, ℕ, ◌+◌, ◌^◌, ◌%◌, true, false, List, [], ◌∷◌, length, Option, Some, None}
+use Rattle.atomic_table.specs.Table.{Me}
 use Rattle.turn_lock.specs.declared.view.Place.{Place}
 use Rattle.turn_lock.specs.declared.view.Place.TheVariants.{Away, Waiting, Inside}
-use Rattle.turn_lock.specs.declared.view.Joined.{Joined}
 use Rattle.turn_lock.specs.declared.view.Known.{Known}
 use Rattle.turn_lock.specs.declared.view.View.{View}
 use Rattle.turn_lock.specs.declared.view.View.TheVariants.{Live, Spent}
-use Rattle.turn_lock.specs.Lists.{IsPrefix, items_by}
+use Rattle.turn_lock.specs.Lists.{IsPrefix, items_by, GrowsBy}
 use Rattle.turn_lock.specs.Views.{newcomer}
+
+-- a seat's view, and the slots that it has out
+abbrev pub Seated : Type 0 → Type 0 → Type 0 → Type 0
+Seated V I N = Me (Option V) (View I N)
 
 abbrev pub at_place : {I N : Type 0} → Known I N → Place → Known I N
 at_place k place = record k { place = place }
@@ -16,36 +19,76 @@ at_place k place = record k { place = place }
 abbrev pub seeing : {I N : Type 0} → Known I N → List I → Known I N
 seeing k log = record k { seen = log }
 
--- the seat's view, and the value that it has out
-abbrev pub Sat : Type 0 → Type 0 → Type 0 → Type 0
-Sat V I N = Me (Option V) (View I N)
+-- a live seat that has no slot out
+abbrev pub apart : {V I N : Type 0} → Known I N → Seated V I N
+apart k = (Live k, [])
+
+-- a live seat that has the slot out, with this in it
+abbrev pub holding : {V I N : Type 0} → Known I N → Option V → Seated V I N
+holding k held = (Live k, (0, held) ∷ [])
 
 module _ {V I N : Type 0} where
-  -- draw: one that was away waits with a ticket, which the word found is modulo 2^64
-  abbrev pub drawn : Step (Option V) → Sat V I N → ℕ → Sat V I N → Type 0
-  drawn st before found after = (k : Known I N) → before ≡ (Live k, []) → (t : ℕ) × (found ≡ t % 2 ^ 64) × (after ≡ (Live (at_place k (Waiting t)), []))
+  -- draw: one that has no ticket
+  pub record MayDraw (before : Seated V I N) : Type 0 where
+    pub known : Known I N
+    pub is : before ≡ apart known
+    pub away : known.place ≡ Away
 
-  -- pass on: one that was in is away, and the value is at home
-  abbrev pub passed : Step (Option V) → Sat V I N → ℕ → Sat V I N → Type 0
-  passed st before found after = (k : Known I N) (value : V) → before ≡ (Live k, (0, Some value) ∷ []) → after ≡ (Live (at_place k Away), [])
+  -- it waits with a ticket, which the word found is modulo 2^64
+  abbrev pub Draws : Seated V I N → ℕ → Seated V I N → Type 0
+  Draws before found after = (k : Known I N) → before ≡ apart k → (t : ℕ) × (found ≡ t % 2 ^ 64) × (after ≡ apart (at_place k (Waiting t)))
 
-  module _ (items : V → List I) where
-    -- note: one that is in has seen the list of the value that it has out
-    abbrev pub noted : Step (Option V) → Sat V I N → ℕ → Sat V I N → Type 0
-    noted st before found after = (k : Known I N) (value : V) → before ≡ (Live k, (0, Some value) ∷ []) → after ≡ (Live (seeing k (items value)), (0, Some value) ∷ [])
+  -- look: one that waits with a ticket, which this is modulo 2^64
+  pub record MayLook (before : Seated V I N) (found : ℕ) : Type 0 where
+    pub known : Known I N
+    pub ticket : ℕ
+    pub is : before ≡ apart known
+    pub waits : known.place ≡ Waiting ticket
+    pub same : found ≡ ticket % 2 ^ 64
 
-    module _ (by : I → ℕ) (name : V → N) where
-      -- one that waited is in and has the value out, whose list begins with what it had seen and has no items by its number but those
-      pub record Enters (k : Known I N) (t : ℕ) (after : Sat V I N) : Type 0 where
-        pub value : V
-        pub out : after ≡ (Live (seeing (at_place k (Inside t)) (items value)), (0, Some value) ∷ [])
-        pub prefix : IsPrefix k.seen (items value)
-        pub own : items_by by k.number (items value) ≡ items_by by k.number k.seen
-        pub named : name value ≡ k.name
+  module _ (items : V → List I) (by : I → ℕ) (name : V → N) where
+    -- it is in and has the value out, whose list begins with what it had seen and has no items by its number but those
+    pub record Enters (k : Known I N) (t : ℕ) (after : Seated V I N) : Type 0 where
+      pub value : V
+      pub out : after ≡ holding (seeing (at_place k (Inside t)) (items value)) (Some value)
+      pub prefix : IsPrefix k.seen (items value)
+      pub own : items_by by k.number (items value) ≡ items_by by k.number k.seen
+      pub named : name value ≡ k.name
 
-      -- look: who finds its ticket served is in, and else nothing changes
-      abbrev pub looked : Step (Option V) → Sat V I N → ℕ → Sat V I N → Type 0
-      looked st before found after = (k : Known I N) (t : ℕ) → before ≡ (Live k, []) → k.place ≡ Waiting t → (found ≡ t % 2 ^ 64 → Enters k t after) × (found ≢ t % 2 ^ 64 → after ≡ before)
+    abbrev pub ComesIn : Seated V I N → Seated V I N → Type 0
+    ComesIn before after = (k : Known I N) (t : ℕ) → before ≡ apart k → k.place ≡ Waiting t → Enters k t after
+
+    -- who finds its ticket comes in, and else nothing changes
+    abbrev pub Looks : Seated V I N → ℕ → Seated V I N → Type 0
+    Looks before found after = (k : Known I N) (t : ℕ) → before ≡ apart k → k.place ≡ Waiting t → (found ≡ t % 2 ^ 64 → Enters k t after) × (found ≢ t % 2 ^ 64 → after ≡ before)
+
+  -- note: one that is in, and has out a value whose list grew by items of its number to this length
+  pub record MayNote (items : V → List I) (by : I → ℕ) (before : Seated V I N) (count : ℕ) : Type 0 where
+    pub known : Known I N
+    pub ticket : ℕ
+    pub value : V
+    pub is : before ≡ holding known (Some value)
+    pub inside : known.place ≡ Inside ticket
+    pub grew : GrowsBy by known.number known.seen (items value)
+    pub long : count ≡ length (items value)
+
+  -- it has seen that list
+  abbrev pub Notes : (V → List I) → Seated V I N → Seated V I N → Type 0
+  Notes items before after = (k : Known I N) (value : V) → before ≡ holding k (Some value) → after ≡ holding (seeing k (items value)) (Some value)
+
+  -- pass on: one that is in, and has out a value with the lock's name whose list it has seen
+  pub record MayPassOn (items : V → List I) (name : V → N) (before : Seated V I N) : Type 0 where
+    pub known : Known I N
+    pub ticket : ℕ
+    pub value : V
+    pub is : before ≡ holding known (Some value)
+    pub inside : known.place ≡ Inside ticket
+    pub list : items value ≡ known.seen
+    pub named : name value ≡ known.name
+
+  -- it is away, and the value is at home
+  abbrev pub PassesOn : Seated V I N → Seated V I N → Type 0
+  PassesOn before after = (k : Known I N) (value : V) → before ≡ holding k (Some value) → after ≡ apart (at_place k Away)
 
 module _ {I N : Type 0} where
   -- split: the newest seat stays as it is, but is not the newest, and a new seat has the next number

@@ -12,3 +12,4 @@ mod turn;
 mod view;
 
 pub use grows::Grows;
+mod steps;

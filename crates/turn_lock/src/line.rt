@@ -1,11 +1,13 @@
 //! The rule of the lock, and its kinds of steps.
 use crate::grows::Grows;
 use crate::view::View;
-use atomic_table::{Join, Play, Split, TableRule};
+use atomic_table::{Join, Play, Seat, Shared, Split, Table, TableRule};
+use std::alloc::Global;
 use std::marker::PhantomData;
 use std::snapshot::Snapshot;
 
 /// What the lock is told when it is made.
+#[derive(Drop)]
 pub struct Founding<V> {
     pub callers: u64,
     pub value: Snapshot<V>,
@@ -15,6 +17,21 @@ pub struct Founding<V> {
 pub struct Turns<V> {
     of: PhantomData<V>,
 }
+
+/// The memory of a lock: three words, and the slot of the value.
+pub type LockTable<V: Grows> = Table<
+    Option<V>,
+    View<V::Item, V::Name>,
+    Founding<V>,
+    Turns<V>,
+    Global,
+>;
+
+/// The same as callers share it.
+pub type LockWords<V: Grows> = Shared<Option<V>, View<V::Item, V::Name>, Founding<V>, Turns<V>>;
+
+/// What a caller steps with.
+pub type LockSeat<V: Grows> = Seat<Option<V>, View<V::Item, V::Name>>;
 
 impl<V: Grows> TableRule<Option<V>, View<V::Item, V::Name>, Founding<V>> for Turns<V> {
     ghost use Rattle.turn_lock.specs.Rule.{TakesTurns};
@@ -30,36 +47,36 @@ impl<V: Grows> TableRule<Option<V>, View<V::Item, V::Name>, Founding<V>> for Tur
 pub struct Draw;
 
 impl<V: Grows> Play<Option<V>, View<V::Item, V::Name>> for Draw {
-    ghost use Rattle.turn_lock.specs.Steps.{drawn};
+    ghost use Rattle.turn_lock.specs.Steps.{Draws};
 
-    ghost then = { drawn };
+    ghost then = { λ _ before found after. Draws before found after };
 }
 
-/// Loads the ticket served.
+/// Loads the ticket served, and comes in where it is its own.
 pub struct Look;
 
 impl<V: Grows> Play<Option<V>, View<V::Item, V::Name>> for Look {
-    ghost use Rattle.turn_lock.specs.Steps.{looked};
+    ghost use Rattle.turn_lock.specs.Steps.{Looks};
 
-    ghost then = { looked V.items V.by V.name };
+    ghost then = { λ _ before found after. Looks V.items V.by V.name before found after };
 }
 
 /// Stores the length of the list.
 pub struct Note;
 
 impl<V: Grows> Play<Option<V>, View<V::Item, V::Name>> for Note {
-    ghost use Rattle.turn_lock.specs.Steps.{noted};
+    ghost use Rattle.turn_lock.specs.Steps.{Notes};
 
-    ghost then = { noted V.items };
+    ghost then = { λ _ before _ after. Notes V.items before after };
 }
 
-/// Adds one to the ticket served.
+/// Adds one to the ticket served, and gives the value back.
 pub struct PassOn;
 
 impl<V: Grows> Play<Option<V>, View<V::Item, V::Name>> for PassOn {
-    ghost use Rattle.turn_lock.specs.Steps.{passed};
+    ghost use Rattle.turn_lock.specs.Steps.{PassesOn};
 
-    ghost then = { passed };
+    ghost then = { λ _ before _ after. PassesOn before after };
 }
 
 /// Makes the seat of the next pass.

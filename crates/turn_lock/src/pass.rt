@@ -3,14 +3,13 @@ ghost use Rattle.std.specs.Prelude.{◌≡◌, true};
 ghost use Rattle.turn_lock.specs.Views.{is_live};
 
 use crate::grows::Grows;
-use crate::view::View;
-use atomic_table::Seat;
+use crate::line::LockSeat;
 use std::marker::Model;
 
 /// A caller's right to enter one lock. Contracts see which lock it is of, its number and the list that it has seen.
 #[derive(Drop)]
 pub struct Pass<V: Grows> {
-    pub(crate) seat: Seat<Option<V>, View<V::Item, V::Name>>,
+    seat: LockSeat<V>,
     ghost live: { is_live seat.me.0 ≡ true },
 }
 
@@ -27,8 +26,21 @@ impl<V: Grows> Model for Pass<V> {
     ghost invariant = { λ p. IsAway (known_of p.seat.me.0 p.live) p.seat.me.1 };
 }
 
-fn goes<T: Send>(_: &T) {}
+impl<V: Grows> Pass<V> {
+    ghost use Rattle.turn_lock.specs.Held.{Rests, IsPassOf};
 
-fn pass_goes<V: Grows + Send>(pass: &Pass<V>) {
-    goes(pass);
+    // The pass of a seat that is away.
+    pub(crate) fn of(seat: LockSeat<V>) -> Pass<V>
+        requires { Rests seat.me }
+        ensures { IsPassOf result seat.table_id seat.me }
+    {
+        Pass { seat }
+    }
+
+    pub(crate) fn into_seat(self) -> LockSeat<V>
+        ensures { IsPassOf self result.table_id result.me }
+    {
+        let Pass { seat } = self;
+        seat
+    }
 }

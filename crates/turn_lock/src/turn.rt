@@ -1,17 +1,15 @@
 //! What a caller holds during its turn.
 ghost use Rattle.std.specs.Prelude.{◌≡◌, true};
 ghost use Rattle.turn_lock.specs.Views.{is_live};
-ghost use Rattle.std.specs.Borrow.{Lends, sem};
 
 use crate::grows::Grows;
-use crate::view::View;
-use atomic_table::Seat;
+use crate::line::LockSeat;
 use std::marker::Model;
 
 /// A turn in a lock, with the value. It has no `Drop`: who does not leave keeps all others out.
 pub struct Turn<V: Grows> {
-    pub(crate) seat: Seat<Option<V>, View<V::Item, V::Name>>,
-    pub(crate) value: V,
+    seat: LockSeat<V>,
+    value: V,
     ghost live: { is_live seat.me.0 ≡ true },
 }
 
@@ -29,16 +27,27 @@ impl<V: Grows> Model for Turn<V> {
 }
 
 impl<V: Grows> Turn<V> {
+    ghost use Rattle.turn_lock.specs.Held.{Holds, IsTurnOf};
+
+    // The turn of a seat that is in and has taken the value out.
+    pub(crate) fn of(seat: LockSeat<V>, value: V) -> Turn<V>
+        requires { Holds seat.me }
+        ensures { IsTurnOf result seat.table_id seat.me value }
+    {
+        Turn { seat, value }
+    }
+
+    pub(crate) fn into_parts(self) -> (LockSeat<V>, V)
+        ensures { IsTurnOf self result.0.table_id result.0.me result.1 }
+    {
+        let Turn { seat, value } = self;
+        (seat, value)
+    }
+
     /// The value.
     pub fn value(&self) -> &V
         ensures { result.now ≡ self.now.value }
     {
         &self.value
     }
-}
-
-fn goes<T: Send>(_: &T) {}
-
-fn turn_goes<V: Grows + Send>(turn: &Turn<V>) {
-    goes(turn);
 }

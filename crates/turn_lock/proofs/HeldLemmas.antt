@@ -1,0 +1,30 @@
+-- The seat of a pass and of a turn, by what the pass or the turn shows.
+use Rattle.std.proofs.Common.{◌≡◌, ℕ, List, [], ◌∷◌, true, refl, sym, ap, ◌∙◌}
+use Rattle.std.specs.Prelude.{Option, Some, None}
+use Rattle.atomic_table.specs.Seated.{TableId}
+use Rattle.turn_lock.specs.declared.view.Known.{Known}
+use Rattle.turn_lock.specs.declared.view.View.{View}
+use Rattle.turn_lock.specs.declared.view.View.TheVariants.{Live, Spent}
+use Rattle.turn_lock.specs.Views.{is_live, known_of}
+use Rattle.turn_lock.specs.Steps.{Seated, apart, holding}
+use Rattle.turn_lock.specs.Held.{PassValue, pass_value, IsAway, Rests, IsPassOf, TurnValue, turn_value, IsInside, Holds, IsTurnOf}
+use Rattle.turn_lock.proofs.ViewLemmas.{view_is, known_is}
+
+module _ {V I N : Type 0} (table : TableId) (me : Seated V I N) (live : is_live me.0 ≡ true) where
+  pub pass_shows : (p : PassValue I N) → IsAway (known_of me.0 live) me.1 → pass_value table (known_of me.0 live) ≡ p → IsPassOf p table me
+  pass_shows p h is = record {
+    seat = record { known = known_of me.0 live; is = λ i. (view_is me.0 live i, h.none i); away = h.place; alone = h.alone };
+    shows = sym is;
+  }
+
+  pub pass_made : Rests me → IsPassOf (pass_value table (known_of me.0 live)) table me
+  pass_made h = record { seat = h; shows = ap (pass_value table) (known_is me.0 live h.known (ap (λ (m : Seated V I N). m.0) h.is)) }
+
+  pub turn_shows : (t : TurnValue V I N) (value : V) → IsInside (known_of me.0 live) me.1 → turn_value table (known_of me.0 live) value ≡ t → IsTurnOf t table me value
+  turn_shows t value h is = record {
+    seat = record { known = known_of me.0 live; ticket = h.ticket; is = λ i. (view_is me.0 live i, h.held i); inside = h.place; alone = h.alone };
+    shows = sym is;
+  }
+
+  pub turn_made : (value : V) → Holds me → IsTurnOf (turn_value table (known_of me.0 live) value) table me value
+  turn_made value h = record { seat = h; shows = ap (λ (k : Known I N). turn_value table k value) (known_is me.0 live h.known (ap (λ (m : Seated V I N). m.0) h.is)) }

@@ -6,3 +6,5 @@ pub mod StepKeeps
 pub mod SeatKeeps
 pub mod HeldLemmas
 pub mod TurnLemmas
+pub mod Dealing
+pub mod Uniting

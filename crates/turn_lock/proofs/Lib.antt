@@ -8,3 +8,4 @@ pub mod HeldLemmas
 pub mod TurnLemmas
 pub mod Dealing
 pub mod Uniting
+pub mod Closing

@@ -23,7 +23,7 @@ pub struct TurnLock<V: Grows> {
 }
 
 impl<V: Grows> Model for TurnLock<V> {
-    ghost use Rattle.std.specs.Prelude.{◌≡◌};
+    ghost use Rattle.std.specs.Prelude.{◌≡◌, ◌<◌};
     ghost use Rattle.turn_lock.specs.Held.{LockValue, lock_code, lock_value};
 
     ghost Value = { LockValue V.Name };
@@ -32,7 +32,7 @@ impl<V: Grows> Model for TurnLock<V> {
 
     ghost view = { λ l. lock_value l.table.shared.table_id (V.name l.table.shared.key.value.value) l.table.shared.key.callers };
 
-    ghost invariant = { λ l. (l.table.shared.table_id.words ≡ 3) × (l.table.shared.table_id.slots ≡ 1) };
+    ghost invariant = { λ l. (l.table.shared.table_id.words ≡ 3) × (l.table.shared.table_id.slots ≡ 1) × (0 < l.table.shared.key.callers) };
 }
 
 impl<V: Grows> TurnLock<V> {

@@ -42,8 +42,8 @@ module _ {V I N : Type 0} (number : ℕ) (name : N) (me : Seated V I N) (is : me
   stays : (left : Seated V I N) → left ≡ (older me.0, me.1) → left ≡ apart record (let k : Known I N = newcomer number name in k) { newest = false }
   stays left e = e ∙ ap (λ (m : Seated V I N). (older m.0, m.1)) is
 
-  pub stays_away : (left : Seated V I N) → left ≡ (older me.0, me.1) → Rests left
-  stays_away left e = record { known = record (let k : Known I N = newcomer number name in k) { newest = false }; is = stays left e; away = refl; alone = refl }
+  pub stays_away : (left : Seated V I N) → left ≡ (older me.0, me.1) → Rests number left
+  stays_away left e = record { known = record (let k : Known I N = newcomer number name in k) { newest = false }; numbered = refl; is = stays left e; away = refl; alone = refl }
 
   -- the seat that is new
   pub comes : (next : Seated V I N) → next ≡ (newer me.0, []) → next ≡ apart (newcomer (number + 1) name)
@@ -54,8 +54,8 @@ module _ {V I N : Type 0} (number : ℕ) (name : N) (me : Seated V I N) (is : me
       let known : pass.seat.known ≡ record (let k : Known I N = newcomer number name in k) { newest = false } = live_same _ _ (ap (λ (m : Seated V I N). m.0) (sym pass.seat.is ∙ stays left e)) in
       pass.shows ∙ λ i. pass_value (same i) (known i)
 
-  pub last_away : Rests me
-  last_away = record { known = newcomer number name; is = is; away = refl; alone = refl }
+  pub last_away : Rests number me
+  last_away = record { known = newcomer number name; numbered = refl; is = is; away = refl; alone = refl }
 
   pub last_pass : (p : PassValue I N) (table table' : TableId) → IsPassOf p table me → table ≡ table' → p ≡ fresh record { table = table'; name = name } number
   last_pass p table table' pass same =

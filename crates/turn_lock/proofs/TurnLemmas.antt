@@ -14,11 +14,11 @@ abbrev lock_of : {N : Type 0} → TableId → N → LockId N
 lock_of table name = record { table = table; name = name }
 
 module _ {V I N : Type 0} where
-  pub rests_draws : (me : Seated V I N) → Rests me → MayDraw me
-  rests_draws me h = record { known = h.known; is = h.is; away = h.away }
+  pub rests_draws : (number : ℕ) (me : Seated V I N) → Rests number me → MayDraw me
+  rests_draws number me h = record { known = h.known; is = h.is; away = h.away }
 
-  pub drawn_looks : (me after : Seated V I N) (found : ℕ) → Rests me → Draws me found after → MayLook after found
-  drawn_looks me after found h draws = let d = draws h.known h.is in
+  pub drawn_looks : (number : ℕ) (me after : Seated V I N) (found : ℕ) → Rests number me → Draws me found after → MayLook after found
+  drawn_looks number me after found h draws = let d = draws h.known h.is in
       record { known = at_place h.known (Waiting d.0); ticket = d.0; is = d.2; waits = refl; same = d.1 }
 
 module _ {V I N : Type 0} (items : V → List I) (by : I → ℕ) (name : V → N) where
@@ -27,8 +27,8 @@ module _ {V I N : Type 0} (items : V → List I) (by : I → ℕ) (name : V → 
     pub ticket : ℕ
     pub enters : Enters items by name k ticket after
 
-  pub came_in : (me drawn after : Seated V I N) (found : ℕ) (h : Rests me) → Draws me found drawn → ComesIn items by name drawn after → CameIn h.known after
-  came_in me drawn after found h draws comes = let d = draws h.known h.is in
+  pub came_in : (number : ℕ) (me drawn after : Seated V I N) (found : ℕ) (h : Rests number me) → Draws me found drawn → ComesIn items by name drawn after → CameIn h.known after
+  came_in number me drawn after found h draws comes = let d = draws h.known h.is in
       let e = comes (at_place h.known (Waiting d.0)) d.0 d.2 refl in
       record { ticket = d.0; enters = record { value = e.value; out = e.out; prefix = e.prefix; own = e.own; named = e.named } }
 
@@ -36,10 +36,11 @@ module _ {V I N : Type 0} (items : V → List I) (by : I → ℕ) (name : V → 
   held_one a b xs e f = let values : Some a ≡ Some b = ap (λ (ys : List (ℕ × Option V)). (get_or ys 0 (0, Some a)).1) (sym e ∙ f) in cc
 
   -- the caller has the value, and its seat the empty slot
-  pub took_out : (me drawn after left : Seated V I N) (found : ℕ) (h : Rests me) → Draws me found drawn → ComesIn items by name drawn after → left ≡ (after.0, (0, None) ∷ []) → Holds left
-  took_out me drawn after left found h draws comes is =
-      let e = came_in me drawn after found h draws comes in record {
+  pub took_out : (number : ℕ) (me drawn after left : Seated V I N) (found : ℕ) (h : Rests number me) → Draws me found drawn → ComesIn items by name drawn after → left ≡ (after.0, (0, None) ∷ []) → Holds number left
+  took_out number me drawn after left found h draws comes is =
+      let e = came_in number me drawn after found h draws comes in record {
     known = seeing (at_place h.known (Inside e.ticket)) (items e.enters.value);
+    numbered = h.numbered;
     ticket = e.ticket;
     is = is ∙ ap (λ (m : Seated V I N). (m.0, (0, None) ∷ [])) e.enters.out;
     inside = refl;
@@ -61,8 +62,8 @@ module _ {V I N : Type 0} (items : V → List I) (by : I → ℕ) (name : V → 
   unfolding took_out
   entered p t table table' me drawn after left found value h draws comes out is same turn =
       let k = h.seat.known in
-      let e = came_in me drawn after found h.seat draws comes in
-      let held = took_out me drawn after left found h.seat draws comes is in
+      let e = came_in p.number me drawn after found h.seat draws comes in
+      let held = took_out p.number me drawn after left found h.seat draws comes is in
       let one : e.enters.value ≡ value = held_one e.enters.value value after.1 (ap (λ (m : Seated V I N). m.1) e.enters.out) out in
       let known : turn.seat.known ≡ held.known = live_same turn.seat.known held.known (ap (λ (m : Seated V I N). m.0) (sym turn.seat.is ∙ held.is)) in
       let shows : t ≡ turn_value table' held.known value = turn.shows ∙ ap (λ (x : Known I N). turn_value table' x value) known in
@@ -106,9 +107,10 @@ module _ {V I N : Type 0} (items : V → List I) (by : I → ℕ) (name : V → 
       named = subst (λ (x : TurnValue V I N). name x.value ≡ x.lock.name) h.shows named;
     }
 
-    pub rests_again : (noted passed : Seated V I N) → Notes items put noted → PassesOn noted passed → Rests passed
+    pub rests_again : (noted passed : Seated V I N) → Notes items put noted → PassesOn noted passed → Rests t.number passed
     rests_again noted passed notes passes = record {
       known = at_place (seeing h.seat.known (items value)) Away;
+      numbered = h.seat.numbered;
       is = passes (seeing h.seat.known (items value)) value (notes h.seat.known value put_is);
       away = refl;
       alone = h.seat.alone;

@@ -36,21 +36,23 @@ pass_code {I} {N} i n = code_by (LockId N × (ℕ × List I)) (coded× (id_code 
 abbrev pub pass_value : {I N : Type 0} → TableId → Known I N → PassValue I N
 pass_value table k = record { lock = record { table = table; name = k.name }; number = k.number; seen = k.seen }
 
--- the seat of a pass has no ticket, took in no other and has no slot out
-pub record IsAway {V I N : Type 0} (k : Known I N) (slots : List (ℕ × Option V)) : Type 0 where
+-- the seat of a pass with this number has no ticket, took in no other and has no slot out
+pub record IsAway {V I N : Type 0} (number : ℕ) (k : Known I N) (slots : List (ℕ × Option V)) : Type 0 where
+  pub numbered : k.number ≡ number
   pub place : k.place ≡ Away
   pub alone : k.joined ≡ []
   pub none : slots ≡ []
 
-pub record Rests {V I N : Type 0} (me : Seated V I N) : Type 0 where
+pub record Rests {V I N : Type 0} (number : ℕ) (me : Seated V I N) : Type 0 where
   pub known : Known I N
+  pub numbered : known.number ≡ number
   pub is : me ≡ apart known
   pub away : known.place ≡ Away
   pub alone : known.joined ≡ []
 
 -- the pass is that of a seat of this table
 pub record IsPassOf {V I N : Type 0} (p : PassValue I N) (table : TableId) (me : Seated V I N) : Type 0 where
-  pub seat : Rests me
+  pub seat : Rests p.number me
   pub shows : p ≡ pass_value table seat.known
 
 pub record TurnValue (V I N : Type 0) : Type 0 where
@@ -66,15 +68,20 @@ turn_code {V} {I} {N} v i n = code_by (LockId N × (ℕ × (List I × V))) (code
 abbrev pub turn_value : {V I N : Type 0} → TableId → Known I N → V → TurnValue V I N
 turn_value table k value = record { lock = record { table = table; name = k.name }; number = k.number; found = k.seen; value = value }
 
--- the seat of a turn is in, took in no other and has the slot out, which is empty
-pub record IsInside {V I N : Type 0} (k : Known I N) (slots : List (ℕ × Option V)) : Type 0 where
+abbrev pub with_value : {V I N : Type 0} → TurnValue V I N → V → TurnValue V I N
+with_value t value = record t { value = value }
+
+-- the seat of a turn with this number is in, took in no other and has the slot out, which is empty
+pub record IsInside {V I N : Type 0} (number : ℕ) (k : Known I N) (slots : List (ℕ × Option V)) : Type 0 where
+  pub numbered : k.number ≡ number
   pub ticket : ℕ
   pub place : k.place ≡ Inside ticket
   pub alone : k.joined ≡ []
   pub held : slots ≡ (0, None) ∷ []
 
-pub record Holds {V I N : Type 0} (me : Seated V I N) : Type 0 where
+pub record Holds {V I N : Type 0} (number : ℕ) (me : Seated V I N) : Type 0 where
   pub known : Known I N
+  pub numbered : known.number ≡ number
   pub ticket : ℕ
   pub is : me ≡ holding known None
   pub inside : known.place ≡ Inside ticket
@@ -82,5 +89,5 @@ pub record Holds {V I N : Type 0} (me : Seated V I N) : Type 0 where
 
 -- the turn is that of a seat of this table, with this value
 pub record IsTurnOf {V I N : Type 0} (t : TurnValue V I N) (table : TableId) (me : Seated V I N) (value : V) : Type 0 where
-  pub seat : Holds me
+  pub seat : Holds t.number me
   pub shows : t ≡ turn_value table seat.known value

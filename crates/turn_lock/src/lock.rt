@@ -71,11 +71,12 @@ impl<V: Grows> TurnLock<V> {
         ensures seen { IsPrefix pass.seen result.found }
         ensures own { items_by V.by pass.number result.found ≡ items_by V.by pass.number pass.seen }
     {
+        let number = pass.number();
         let mut seat = pass.into_seat();
         let ticket = draw(&self.table.shared, &mut seat);
         wait(rt, &self.table.shared, &mut seat, ticket);
         let value = take(&self.table.shared, &mut seat);
-        Turn::of(seat, value)
+        Turn::of(number, seat, value)
     }
 
     /// Ends a turn. The list grew by items of this caller alone, to fewer than 2^63, and the pass has then seen it.
@@ -88,12 +89,13 @@ impl<V: Grows> TurnLock<V> {
         ensures number { result.number ≡ turn.number }
         ensures seen { result.seen ≡ V.items turn.value }
     {
+        let number = turn.number();
         let (mut seat, value) = turn.into_parts();
         let count = value.count();
         put(&self.table.shared, &mut seat, value);
         note(&self.table.shared, &mut seat, count);
         pass_on(&self.table.shared, &mut seat);
-        Pass::of(seat)
+        Pass::of(number, seat)
     }
 
     /// Ends the lock, with all its passes. Each pass's list begins the value's, which has no items by its number but those, and none by a number of no pass.
@@ -165,12 +167,12 @@ fn deal<V: Grows>(
     ensures { AreNew record { table = words.now.table_id; name = V.name words.now.key.value.value } callers result.items }
 {
     let mut seat = first;
-    for _ in 1..callers {
+    for number in 1..callers {
         let next = words.split_seat::<Deal>(&mut seat);
-        passes.push_reserved(Pass::of(seat));
+        passes.push_reserved(Pass::of(number, seat));
         seat = next;
     }
-    passes.push_reserved(Pass::of(seat));
+    passes.push_reserved(Pass::of(callers, seat));
     passes
 }
 

@@ -9,6 +9,7 @@ use std::marker::Model;
 /// A caller's right to enter one lock. Contracts see which lock it is of, its number and the list that it has seen.
 #[derive(Drop)]
 pub struct Pass<V: Grows> {
+    number: u64,
     seat: LockSeat<V>,
     ghost live: { is_live seat.me.0 ≡ true },
 }
@@ -23,24 +24,31 @@ impl<V: Grows> Model for Pass<V> {
 
     ghost view = { λ p. pass_value p.seat.table_id (known_of p.seat.me.0 p.live) };
 
-    ghost invariant = { λ p. IsAway (known_of p.seat.me.0 p.live) p.seat.me.1 };
+    ghost invariant = { λ p. IsAway p.number (known_of p.seat.me.0 p.live) p.seat.me.1 };
 }
 
 impl<V: Grows> Pass<V> {
     ghost use Rattle.turn_lock.specs.Held.{Rests, IsPassOf};
 
+    /// The caller's number, from 1 to the number of callers.
+    pub fn number(&self) -> u64
+        ensures { result ≡ self.now.number }
+    {
+        self.number
+    }
+
     // The pass of a seat that is away.
-    pub(crate) fn of(seat: LockSeat<V>) -> Pass<V>
-        requires { Rests seat.me }
+    pub(crate) fn of(number: u64, seat: LockSeat<V>) -> Pass<V>
+        requires { Rests number seat.me }
         ensures { IsPassOf result seat.table_id seat.me }
     {
-        Pass { seat }
+        Pass { number, seat }
     }
 
     pub(crate) fn into_seat(self) -> LockSeat<V>
         ensures { IsPassOf self result.table_id result.me }
     {
-        let Pass { seat } = self;
+        let Pass { number: _, seat } = self;
         seat
     }
 }

@@ -8,6 +8,7 @@ use std::marker::Model;
 
 /// A turn in a lock, with the value. It has no `Drop`: who does not leave keeps all others out.
 pub struct Turn<V: Grows> {
+    number: u64,
     seat: LockSeat<V>,
     value: V,
     ghost live: { is_live seat.me.0 ≡ true },
@@ -23,25 +24,42 @@ impl<V: Grows> Model for Turn<V> {
 
     ghost view = { λ t. turn_value t.seat.table_id (known_of t.seat.me.0 t.live) t.value };
 
-    ghost invariant = { λ t. IsInside (known_of t.seat.me.0 t.live) t.seat.me.1 };
+    ghost invariant = { λ t. IsInside t.number (known_of t.seat.me.0 t.live) t.seat.me.1 };
 }
 
 impl<V: Grows> Turn<V> {
-    ghost use Rattle.turn_lock.specs.Held.{Holds, IsTurnOf};
+    ghost use Rattle.std.specs.Borrow.{Lends, sem};
+    ghost use Rattle.turn_lock.specs.contracts.turn.Turn.{the_row};
+    ghost use Rattle.turn_lock.specs.Held.{Holds, IsTurnOf, with_value};
 
     // The turn of a seat that is in and has taken the value out.
-    pub(crate) fn of(seat: LockSeat<V>, value: V) -> Turn<V>
-        requires { Holds seat.me }
+    pub(crate) fn of(number: u64, seat: LockSeat<V>, value: V) -> Turn<V>
+        requires { Holds number seat.me }
         ensures { IsTurnOf result seat.table_id seat.me value }
     {
-        Turn { seat, value }
+        Turn {
+            number,
+            seat,
+            value,
+        }
     }
 
     pub(crate) fn into_parts(self) -> (LockSeat<V>, V)
         ensures { IsTurnOf self result.0.table_id result.0.me result.1 }
     {
-        let Turn { seat, value } = self;
+        let Turn {
+            number: _,
+            seat,
+            value,
+        } = self;
         (seat, value)
+    }
+
+    /// The caller's number.
+    pub fn number(&self) -> u64
+        ensures { result ≡ self.now.number }
+    {
+        self.number
     }
 
     /// The value.
@@ -49,5 +67,12 @@ impl<V: Grows> Turn<V> {
         ensures { result.now ≡ self.now.value }
     {
         &self.value
+    }
+    /// The value, to be changed. When the borrow ends, the turn has what was written through it.
+    pub fn value_mut(&mut self) -> &mut V
+        ensures* writes_back { sem 𝓛 (Lends (the_row V.row V.Item.row V.Name.row V.Grows) V.row self.entry result (with_value self.old)) }
+        ensures value { result.now ≡ self.old.value }
+    {
+        &mut self.value
     }
 }

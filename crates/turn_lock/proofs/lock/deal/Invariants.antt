@@ -4,7 +4,7 @@ use Rattle.turn_lock.specs.Steps.{apart}
 use Rattle.turn_lock.proofs.Dealing.{Dealt}
 use Rattle.turn_lock.proofs.lock.deal.Given as goal
 
-abbrev pub invariant-loop : goal.invariant-loop
-invariant-loop g l =
+abbrev pub invariant-loop-number : goal.invariant-loop-number
+invariant-loop-number g l =
     let name = g.V.Grows.name l.words.key.value.value in
-    (l.seat.table_id ≡ l.words.table_id) × (l.seat.me ≡ apart (newcomer l.counter name)) × Dealt record { table = l.words.table_id; name = name } l.counter l.passes.items × (l.callers ≤ vec_capacity l.passes)
+    (l.seat.table_id ≡ l.words.table_id) × (l.seat.me ≡ apart (newcomer l.number name)) × Dealt record { table = l.words.table_id; name = name } l.number l.passes.items × (l.callers ≤ vec_capacity l.passes)

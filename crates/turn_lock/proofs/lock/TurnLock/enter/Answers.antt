@@ -5,15 +5,15 @@ use Rattle.turn_lock.proofs.lock.TurnLock.enter.Given.{Over}
 use Rattle.turn_lock.proofs.lock.TurnLock.enter.Goals as goal
 
 pub wait-requires-clause-waits : goal.wait-requires-clause-waits
-wait-requires-clause-waits g c = drawn_looks _ _ _ c.into_seat-seat.ensures.seat c.draw-ticket.ensures.drawn
+wait-requires-clause-waits g c = drawn_looks _ _ _ _ c.into_seat-seat.ensures.seat c.draw-ticket.ensures.drawn
 
 pub take-value-requires-clause-held : goal.take-value-requires-clause-held
 take-value-requires-clause-held g c =
-    let e = came_in g.V.Grows.items g.V.Grows.by g.V.Grows.name _ _ _ _ c.into_seat-seat.ensures.seat c.draw-ticket.ensures.drawn c.wait.ensures.inside in
+    let e = came_in g.V.Grows.items g.V.Grows.by g.V.Grows.name _ _ _ _ _ c.into_seat-seat.ensures.seat c.draw-ticket.ensures.drawn c.wait.ensures.inside in
     (e.enters.value, ap (λ m. m.1) e.enters.out)
 
 pub of-requires : goal.of-requires
-of-requires g c = took_out _ _ _ _ _ _ _ _ c.into_seat-seat.ensures.seat c.draw-ticket.ensures.drawn c.wait.ensures.inside c.take-value.ensures.left
+of-requires g c = rw c.number-number.ensures (took_out _ _ _ _ _ _ _ _ _ c.into_seat-seat.ensures.seat c.draw-ticket.ensures.drawn c.wait.ensures.inside c.take-value.ensures.left)
 
 facts : (g : Over) (c : goal.After-of g) → Entered g.V.Grows.items g.V.Grows.by g.V.Grows.name c.args.pass c.of.result c.take-value.result
 facts g c =

@@ -12,7 +12,7 @@ pass_on-requires-clause-seen g c = may_pass_on g.V.Grows.items g.V.Grows.by g.V.
     (c.requires.name ∙ sym (ap (λ (l : LockId g.row.V-Name.Denot). l.name) c.requires.lock))
 
 pub of-requires : goal.of-requires
-of-requires g c = rests_again g.V.Grows.items g.V.Grows.by g.V.Grows.name _ _ _ _ _ c.into_parts-seat.ensures c.put.ensures.held _ _ c.note.ensures.noted c.pass_on.ensures.passed
+of-requires g c = rw c.number-number.ensures (rests_again g.V.Grows.items g.V.Grows.by g.V.Grows.name _ _ _ _ _ c.into_parts-seat.ensures c.put.ensures.held _ _ c.note.ensures.noted c.pass_on.ensures.passed)
 
 facts : (g : Over) (c : goal.After-of g) → Left g.V.Grows.items g.V.Grows.by g.V.Grows.name c.args.turn _ _ _ _ c.into_parts-seat.ensures c.put.ensures.held c.of.result
 facts g c =

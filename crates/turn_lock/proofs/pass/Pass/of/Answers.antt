@@ -2,4 +2,4 @@ use Rattle.turn_lock.proofs.HeldLemmas.{pass_made}
 use Rattle.turn_lock.proofs.pass.Pass.of.Goals as goal
 
 pub returns : goal.returns
-returns g c = pass_made _ _ _ c.requires
+returns g c = pass_made _ _ _ _ c.requires

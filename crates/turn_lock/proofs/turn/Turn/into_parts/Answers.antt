@@ -2,4 +2,4 @@ use Rattle.turn_lock.proofs.HeldLemmas.{turn_shows}
 use Rattle.turn_lock.proofs.turn.Turn.into_parts.Goals as goal
 
 pub returns : goal.returns
-returns g c = turn_shows _ _ c.self.inside.live _ _ c.self.invariant c.self.view_is
+returns g c = turn_shows _ _ c.self.inside.live _ _ _ c.self.invariant c.self.view_is

@@ -34,7 +34,7 @@ module _ {I N : Type 0} (lock : LockId N) where
         (slice_get-end passes p q k at);
   }
 
-  pub dealt_all : (number callers : ℕ) (passes : List (PassValue I N)) (p : PassValue I N) → Dealt lock number passes → p ≡ fresh lock number → number ≡ callers → AreNew lock callers (passes ++ p ∷ [])
+  pub dealt_all : (number callers : ℕ) (passes : List (PassValue I N)) (p : PassValue I N) → Dealt lock number passes → p ≡ fresh lock number → number ≡ callers → AreNew record { id = lock; callers = callers } (passes ++ p ∷ [])
   dealt_all number callers passes p d is last = let e = dealt_more number passes p d is in record { count = let c = e.count in omega arith; each = e.each }
 
 module _ {V I N : Type 0} (number : ℕ) (name : N) (me : Seated V I N) (is : me ≡ apart (newcomer number name)) where

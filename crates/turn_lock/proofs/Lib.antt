@@ -9,3 +9,4 @@ pub mod TurnLemmas
 pub mod Dealing
 pub mod Uniting
 pub mod Closing
+pub mod AllPasses

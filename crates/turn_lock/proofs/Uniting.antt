@@ -1,5 +1,5 @@
 -- Passes joined one after another.
-use Rattle.std.proofs.Common.{◌≡◌, ℕ, zero, suc, ◌+◌, ◌<◌, List, [], ◌∷◌, ◌++◌, map, refl, sym, ap, ◌∙◌, subst, append_assoc}
+use Rattle.std.proofs.Common.{◌≡◌, ℕ, ◌-◌, take, List, [], ◌∷◌, ◌++◌, map, refl, sym, ap, ◌∙◌, subst, append_assoc}
 use mathlib.Core.List.{map-append}
 use Rattle.atomic_table.specs.Seated.{TableId}
 use Rattle.turn_lock.specs.declared.view.Place.TheVariants.{Away}
@@ -48,5 +48,10 @@ module _ {V I N : Type 0} where
         ∙ ap (λ (x : Joined I). map joined_of left ++ (x ∷ (k.joined ++ last))) (record_of q table him h))));
   }
 
-  pub unions_all : (all : List (PassValue I N)) (me : Seated V I N) → Unions all [] me → Unites all me
-  unions_all all me u = record { known = u.known; is = u.is; away = u.away; all = u.split }
+  -- once none is left
+  pub unions_all : (all left : List (PassValue I N)) (me : Seated V I N) → left ≡ [] → Unions all left me → Unites all me
+  unions_all all left me none u = record { known = u.known; is = u.is; away = u.away; all = u.split ∙ ap (λ (xs : List (PassValue I N)). map joined_of xs ++ (u.known.joined ++ record { number = u.known.number; seen = u.known.seen } ∷ [])) none }
+
+-- a list whose pop gave nothing was empty
+pub popped_none : {X : Type 0} (before after : List X) (long : ℕ) → before ≡ after ++ [] → after ≡ take (long - 1) before → long ≡ 0 → before ≡ []
+popped_none {X} before after long e rest none = e ∙ ap (λ (xs : List X). xs ++ []) (rest ∙ ap (λ (n : ℕ). take (n - 1) before) none)

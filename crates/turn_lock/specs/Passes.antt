@@ -11,9 +11,14 @@ abbrev pub fresh : {I N : Type 0} → LockId N → ℕ → PassValue I N
 fresh lock number = record { lock = lock; number = number; seen = [] }
 
 -- the passes of a lock as it was made, numbered from 1, which have seen nothing
-pub record AreNew {I N : Type 0} (lock : LockId N) (callers : ℕ) (passes : List (PassValue I N)) : Type 0 where
-  pub count : length passes ≡ callers
-  pub each : (k : ℕ) (p : PassValue I N) → slice_get passes k ≡ Some p → p ≡ fresh lock (k + 1)
+pub record AreNew {I N : Type 0} (lock : LockValue N) (passes : List (PassValue I N)) : Type 0 where
+  pub count : length passes ≡ lock.callers
+  pub each : (k : ℕ) (p : PassValue I N) → slice_get passes k ≡ Some p → p ≡ fresh lock.id (k + 1)
+
+-- a later pass of the same caller
+pub record IsSameCaller {I N : Type 0} (before now : PassValue I N) : Type 0 where
+  pub lock : now.lock ≡ before.lock
+  pub number : now.number ≡ before.number
 
 -- passes of this lock, and for each number that of its caller
 pub record AreAll {I N : Type 0} (lock : LockValue N) (passes : List (PassValue I N)) : Type 0 where

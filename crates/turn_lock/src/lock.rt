@@ -46,7 +46,7 @@ impl<V: Grows> TurnLock<V> {
         requires empty { V.items value ≡ [] }
         ensures name { IfOk result (λ made. made.0.id.name ≡ V.name value) }
         ensures callers { IfOk result (λ made. made.0.callers ≡ callers) }
-        ensures passes { IfOk result (λ made. AreNew made.0.id callers made.1.items) }
+        ensures passes { IfOk result (λ made. AreNew made.0 made.1.items) }
         ensures err { IfErr result (λ v. v ≡ value) }
     {
         let founding = Founding {
@@ -164,7 +164,7 @@ fn deal<V: Grows>(
     requires first { first.me ≡ apart (newcomer 1 (V.name words.now.key.value.value)) }
     requires callers { (1 ≤ callers) × (callers ≡ words.now.key.callers) }
     requires room { (passes.items ≡ []) × (callers ≤ vec_capacity passes) }
-    ensures { AreNew record { table = words.now.table_id; name = V.name words.now.key.value.value } callers result.items }
+    ensures { AreNew record { id = record { table = words.now.table_id; name = V.name words.now.key.value.value }; callers = callers } result.items }
 {
     let mut seat = first;
     for number in 1..callers {

@@ -1,8 +1,12 @@
-ghost use Rattle.std.specs.Prelude.{◌≡◌, ℕ, ◌^◌, ◌<◌, length, IfOk};
+ghost use Rattle.std.specs.Prelude.{◌≡◌, ◌^◌, ◌<◌, ◌≤◌, length, All, vec_len, vec_capacity};
+ghost use Rattle.std.specs.List.{AllZip};
+ghost use Rattle.std.specs.Thread.{IsSync};
 ghost use Rattle.turn_lock.specs.Lists.{GrowsBy};
+ghost use Rattle.turn_lock.specs.Passes.{IsSameCaller};
 
 use crate::{Grows, Pass, Turn, TurnLock};
 use std::alloc::Global;
+use std::process::Abort;
 use std::sync::Wait;
 use std::test::Fail;
 use std::thread::{Threads, join};
@@ -39,4 +43,119 @@ fn add_one(turn: &mut Turn<Numbers>)
 {
     let number = turn.number();
     let _ = turn.value_mut().numbers.push(number);
+}
+
+// Enters so many times, and adds the caller's number each time.
+fn add<R: Wait>(
+    rt: &R,
+    lock: &TurnLock<Numbers>,
+    mut pass: Pass<Numbers>,
+    rounds: u64,
+) -> Pass<Numbers>
+    requires { pass.lock ≡ lock.now.id }
+    ensures { IsSameCaller pass result }
+{
+    for _ in 0..rounds {
+        let mut turn = lock.enter(rt, pass);
+        add_one(&mut turn);
+        pass = lock.leave(turn);
+    }
+    pass
+}
+
+// The same for each of these passes, in a thread of its own.
+fn add_all<R: Threads + Wait + Sync>(
+    rt: &R,
+    lock: &TurnLock<Numbers>,
+    mut passes: Vec<Pass<Numbers>>,
+    rounds: u64,
+) -> Vec<Pass<Numbers>>
+    requires { All (λ p. p.lock ≡ lock.now.id) passes.items }
+    ensures same { AllZip IsSameCaller passes.items result.items }
+    ensures room { (vec_len result ≡ vec_len passes) × (vec_capacity result ≡ vec_capacity passes) }
+{
+    let Some(last) = passes.pop() else {
+        return passes;
+    };
+    let (mut rest, last) = join(
+        rt,
+        || -> Vec<Pass<Numbers>>
+            requires { IsSync R.row × All (λ p. p.lock ≡ lock.now.id) passes.items }
+            ensures { AllZip IsSameCaller passes.items result.items × (vec_len result ≡ vec_len passes) × (vec_capacity result ≡ vec_capacity passes) }
+        { add_all(rt, lock, passes, rounds) },
+        || -> Pass<Numbers>
+            requires { last.lock ≡ lock.now.id }
+            ensures { IsSameCaller last result }
+        { add(rt, lock, last, rounds) },
+    );
+    rest.push_reserved(last);
+    rest
+}
+
+// What so many callers leave, who each enter so many times. None for want of memory.
+fn numbers_of<R: Threads + Wait + Sync>(rt: &R, alloc: Global, callers: u64, rounds: u64) -> Option<Numbers>
+    requires { (1 ≤ callers) × (callers ≤ 64) }
+{
+    let value = Numbers {
+        numbers: Vec::new(alloc),
+    };
+    let Ok((lock, passes)) = TurnLock::new(alloc, value, callers) else {
+        return None;
+    };
+    let passes = add_all(rt, &lock, passes, rounds);
+    Some(lock.close(passes))
+}
+
+fn count_of(numbers: &[u64], number: u64) -> usize {
+    numbers.iter().filter(|n| **n == number).count()
+}
+
+// A lock, its passes and its turns go to other threads, and threads share the lock.
+fn goes<T: Send>(_: &T) {}
+
+fn is_shared<T: Sync>(_: &T) {}
+
+fn crosses<V: Grows + Send>(lock: &TurnLock<V>, pass: &Pass<V>, turn: &Turn<V>) {
+    goes(lock);
+    is_shared(lock);
+    goes(pass);
+    goes(turn);
+}
+
+// The list has so many items in all, and as many of each caller as it entered times.
+fn check_run<R: Threads + Wait + Abort + Sync>(
+    rt: &R,
+    alloc: Global,
+    callers: u64,
+    rounds: u64,
+    total: u64,
+) -> Result<(), Fail>
+    requires { (1 ≤ callers) × (callers ≤ 64) }
+{
+    let left = numbers_of(rt, alloc, callers, rounds).ok_or("no memory")?;
+    assert_eq!(rt; left.count(), total, "{callers} callers");
+    for number in 1..callers + 1 {
+        let own = count_of(left.numbers.as_slice(), number) as u64;
+        assert_eq!(rt; own, rounds, "caller {number} of {callers}");
+    }
+    Ok(())
+}
+
+#[test]
+fn each_caller_adds_its_own_items(rt: HostRuntime) -> Result<(), Fail> {
+    check_run(&rt, rt.alloc(), 1, 10, 10)?;
+    check_run(&rt, rt.alloc(), 2, 100, 200)?;
+    check_run(&rt, rt.alloc(), 8, 2000, 16000)
+}
+
+#[test]
+fn value_comes_back_without_memory(rt: HostRuntime) -> Result<(), Fail> {
+    let value = Numbers {
+        numbers: Vec::new(rt.alloc()),
+    };
+    match TurnLock::new(rt.alloc(), value, 2) {
+        Ok((_lock, passes)) => assert_eq!(rt; passes.len(), 2),
+        Err(value) => assert_eq!(rt; value.count(), 0),
+    }
+    Ok(())
 }

@@ -1,10 +1,10 @@
-use Rattle.std.proofs.Common.{rules, ◌≡◌, ℕ, ◌-◌, List, ◌++◌, ◌∷◌, [], take, sym, ap, subst, ◌∙◌}
+use Rattle.std.proofs.Common.{rules, ◌≡◌, ◌++◌, ◌∷◌, [], sym, ap, ◌∙◌}
 use Rattle.std.specs.Prelude.{Some}
 use Rattle.std.proofs.lemmas.List.Elements.{All-pop}
 use Rattle.turn_lock.specs.Held.{PassValue}
 use Rattle.turn_lock.specs.Steps.{Seated}
 use Rattle.turn_lock.proofs.SeatKeeps.{may_join}
-use Rattle.turn_lock.proofs.Uniting.{Unions, table_of, unions_first, unions_more, unions_all}
+use Rattle.turn_lock.proofs.Uniting.{table_of, unions_first, unions_more, unions_all, popped_none}
 use Rattle.turn_lock.proofs.lock.unite.Goals as goal
 
 pub loop-pass-init : goal.loop-pass-init
@@ -36,6 +36,4 @@ loop-pass-preserved g c =
 pub returns-clause-knows : goal.returns-clause-knows
 returns-clause-knows g c =
     let popped = c.in_default-pop.ensures in
-    let passes : List (PassValue g.row.V-Item.Denot g.row.V-Name.Denot) = c.loop-pass.passes.items in
-    let none : passes ≡ [] = popped.items ∙ ap (λ (xs : List (PassValue g.row.V-Item.Denot g.row.V-Name.Denot)). xs ++ []) (popped.rest ∙ ap (λ (n : ℕ). take (n - 1) passes) popped.cases.0) in
-    unions_all _ _ (subst (λ (xs : List (PassValue g.row.V-Item.Denot g.row.V-Name.Denot)). Unions c.args.passes.items xs c.loop-pass.seat.me) none c.loop-pass.invariant.1)
+    unions_all _ _ _ (popped_none _ _ _ popped.items popped.rest popped.cases.0) c.loop-pass.invariant.1

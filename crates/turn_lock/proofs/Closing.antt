@@ -1,16 +1,15 @@
 -- What is known of the value once the lock is closed with all its passes.
-use Rattle.std.proofs.Common.{◌≡◌, ◌≢◌, ℕ, zero, suc, ◌+◌, ◌<◌, ◌≤◌, List, [], ◌∷◌, ◌++◌, ◌⊎◌, length, map, refl, sym, ap, ◌∙◌, inl, inr, ⊎_elim, subst, arith}
-use Rattle.std.specs.Prelude.{Option, Some, None, All, Any, slice_index_or}
+use Rattle.std.proofs.Common.{◌≡◌, ℕ, ◌+◌, ◌<◌, ◌≤◌, List, [], ◌∷◌, ◌++◌, ◌⊎◌, length, map, refl, sym, ap, ◌∙◌, inl, inr, ⊎_elim, subst, arith}
+use Rattle.std.specs.Prelude.{Option, Some, All, Any}
 use Rattle.std.proofs.lemmas.List.Elements.{All-weaker, All-append, All-nil, All-cons, All-head, All-tail, All-same}
-use mathlib.Core.Option.{Option as Maybe, some, none, some-injective}
+use mathlib.Core.Option.{Option as Maybe, some, some-injective}
 use lib.ListN.{get_elem?}
 use Rattle.atomic_table.specs.Table.{State, Final, Seen}
-use Rattle.turn_lock.specs.declared.view.Place.{Place}
-use Rattle.turn_lock.specs.declared.view.Place.TheVariants.{Away, Waiting, Inside}
+use Rattle.turn_lock.specs.declared.view.Place.TheVariants.{Away, Inside}
 use Rattle.turn_lock.specs.declared.view.Joined.{Joined}
 use Rattle.turn_lock.specs.declared.view.Known.{Known}
 use Rattle.turn_lock.specs.declared.view.View.{View}
-use Rattle.turn_lock.specs.declared.view.View.TheVariants.{Live, Spent}
+use Rattle.turn_lock.specs.declared.view.View.TheVariants.{Live}
 use Rattle.turn_lock.specs.Lists.{IsPrefix, items_by}
 use Rattle.turn_lock.specs.Views.{Knows, IsSpent}
 use Rattle.turn_lock.specs.Rule.{IsHome, IsOut, IsKept, TakesTurns}
@@ -76,19 +75,19 @@ module _ {V I N : Type 0} (items : V → List I) (by : I → ℕ) (name : V → 
       let at : Knows s.views id u.known = final.1.1 ∙ ap (λ (m : Seated V I N). some m.0) u.is in
       let all = told s r id me passes u at in
       let home : IsHome items by name called r.log s.homes s.views = ⊎_elim
-          (λ (h : IsHome items by name called r.log s.homes s.views). h)
-          (λ (h : IsOut items by name called s.homes s.views).
-              let here = one_left s r id passes all each h.seat h.known h.there in
-              let one : u.known ≡ h.known = knows_one s.views id u.known h.known at (subst (λ (n : ℕ). Knows s.views n h.known) here h.there) in
-              let clash : Away ≡ Inside h.ticket = sym u.away ∙ (ap (λ (x : Known I N). x.place) one ∙ h.inside) in absurd cc)
-          r.slot in
+      (λ (h : IsHome items by name called r.log s.homes s.views). h)
+      (λ (h : IsOut items by name called s.homes s.views).
+      let here = one_left s r id passes all each h.seat h.known h.there in
+      let one : u.known ≡ h.known = knows_one s.views id u.known h.known at (subst (λ (n : ℕ). Knows s.views n h.known) here h.there) in
+      let clash : Away ≡ Inside h.ticket = sym u.away ∙ (ap (λ (x : Known I N). x.place) one ∙ h.inside) in absurd cc)
+      r.slot in
       let kept : get_elem? slots 0 ≡ some (Some home.value) = final.4 0 (Some home.value) (ap (λ (hs : List (Maybe (Option V))). get_elem? hs 0) home.there) in
       let list : r.log ≡ items home.value = sym home.list in record {
-    value = home.value;
-    is = some-injective _ _ (sym taken ∙ kept);
-    named = home.named;
-    prefix = All-weaker (λ p. Told r.log s.views id (joined_of p)) (λ p. IsPrefix p.seen (items home.value)) (λ p h. subst (IsPrefix p.seen) list h.prefix) passes all;
-    own = All-weaker (λ p. Told r.log s.views id (joined_of p)) (λ p. items_by by p.number (items home.value) ≡ items_by by p.number p.seen) (λ p h. ap (items_by by p.number) (sym list) ∙ h.own) passes all;
-    others = subst (All (λ x. Any (λ p. p.number ≡ by x) passes)) list
-        (All-weaker (λ x. (0 < by x) × (by x ≤ length s.views)) (λ x. Any (λ p. p.number ≡ by x) passes) (λ x h. let few = r.few in each (by x) h.0 (omega arith)) r.log r.authors);
-  }
+        value = home.value;
+        is = some-injective _ _ (sym taken ∙ kept);
+        named = home.named;
+        prefix = All-weaker (λ p. Told r.log s.views id (joined_of p)) (λ p. IsPrefix p.seen (items home.value)) (λ p h. subst (IsPrefix p.seen) list h.prefix) passes all;
+        own = All-weaker (λ p. Told r.log s.views id (joined_of p)) (λ p. items_by by p.number (items home.value) ≡ items_by by p.number p.seen) (λ p h. ap (items_by by p.number) (sym list) ∙ h.own) passes all;
+        others = subst (All (λ x. Any (λ p. p.number ≡ by x) passes)) list
+            (All-weaker (λ x. (0 < by x) × (by x ≤ length s.views)) (λ x. Any (λ p. p.number ≡ by x) passes) (λ x h. let few = r.few in each (by x) h.0 (omega arith)) r.log r.authors);
+      }

@@ -1,12 +1,9 @@
 -- The seat of a pass and of a turn, by what the pass or the turn shows.
-use Rattle.std.proofs.Common.{◌≡◌, ℕ, List, [], ◌∷◌, true, refl, sym, ap, ◌∙◌}
-use Rattle.std.specs.Prelude.{Option, Some, None}
+use Rattle.std.proofs.Common.{◌≡◌, ℕ, true, sym, ap, ◌∙◌}
 use Rattle.atomic_table.specs.Seated.{TableId}
 use Rattle.turn_lock.specs.declared.view.Known.{Known}
-use Rattle.turn_lock.specs.declared.view.View.{View}
-use Rattle.turn_lock.specs.declared.view.View.TheVariants.{Live, Spent}
 use Rattle.turn_lock.specs.Views.{is_live, known_of}
-use Rattle.turn_lock.specs.Steps.{Seated, apart, holding}
+use Rattle.turn_lock.specs.Steps.{Seated}
 use Rattle.turn_lock.specs.Held.{PassValue, pass_value, IsAway, Rests, IsPassOf, TurnValue, turn_value, IsInside, Holds, IsTurnOf}
 use Rattle.turn_lock.proofs.ViewLemmas.{view_is, known_is}
 

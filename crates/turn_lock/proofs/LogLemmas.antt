@@ -1,7 +1,7 @@
 -- Beginnings of a list that grows, and its items by one number.
-use Rattle.std.proofs.Common.{◌≡◌, ◌≢◌, ℕ, eqb, ne_eqb, List, [], ◌∷◌, ◌++◌, refl, sym, ap, ◌∙◌, append_assoc, append-nil, arith}
-use Rattle.std.specs.Prelude.{filter, ◌==◌, All}
-use Rattle.std.proofs.lemmas.List.Elements.{filter-append, All-head, All-tail, All-weaker, All-append}
+use Rattle.std.proofs.Common.{◌≡◌, ◌≢◌, ℕ, ne_eqb, List, [], ◌∷◌, ◌++◌, refl, sym, ap, ◌∙◌, append_assoc, append-nil, arith}
+use Rattle.std.specs.Prelude.{◌==◌, All}
+use Rattle.std.proofs.lemmas.List.Elements.{filter-append, All-head, All-tail, All-weaker}
 use Rattle.turn_lock.specs.Lists.{IsPrefix, items_by, GrowsBy}
 
 module _ {I : Type 0} where

@@ -1,18 +1,18 @@
 -- What each kind of step shares in keeping the rule.
-use Rattle.std.proofs.Common.{◌≡◌, ◌≢◌, ℕ, zero, suc, ◌+◌, ◌^◌, ◌%◌, ◌<◌, ◌≤◌, List, [], ◌∷◌, ◌++◌, ◌⊎◌, length, set, refl, sym, ap, ◌∙◌, inl, inr, ⊎_elim, subst, Bool, true, false, arith, length-set}
-use Rattle.std.specs.Prelude.{Option, Some, None, All}
+use Rattle.std.proofs.Common.{◌≡◌, ◌≢◌, ℕ, ◌+◌, ◌^◌, ◌%◌, ◌<◌, ◌≤◌, List, [], ◌∷◌, ◌++◌, ◌⊎◌, length, set, sym, ap, ◌∙◌, ⊎_elim, subst, arith, length-set}
+use Rattle.std.specs.Prelude.{Option, Some, All}
 use Rattle.std.proofs.lemmas.List.Elements.{All-weaker, All-append, All-same}
-use mathlib.Core.Option.{Option as Maybe, some, none}
+use mathlib.Core.Option.{Option as Maybe, some}
 use lib.ListN.{get_elem?, get_or}
 use lib.Seq.{set-get_or}
 use Rattle.atomic_table.specs.Table.{State}
-use Rattle.atomic_table.proofs.Lists.{set_here, set_else, set_again}
+use Rattle.atomic_table.proofs.Lists.{set_else, set_again}
 use Rattle.turn_lock.specs.declared.view.Place.{Place}
-use Rattle.turn_lock.specs.declared.view.Place.TheVariants.{Away, Waiting, Inside}
+use Rattle.turn_lock.specs.declared.view.Place.TheVariants.{Inside}
 use Rattle.turn_lock.specs.declared.view.Joined.{Joined}
 use Rattle.turn_lock.specs.declared.view.Known.{Known}
 use Rattle.turn_lock.specs.declared.view.View.{View}
-use Rattle.turn_lock.specs.declared.view.View.TheVariants.{Live, Spent}
+use Rattle.turn_lock.specs.declared.view.View.TheVariants.{Live}
 use Rattle.turn_lock.specs.Lists.{IsPrefix, items_by, GrowsBy}
 use Rattle.turn_lock.specs.Views.{Knows, IsSpent}
 use Rattle.turn_lock.specs.Line.{IsLine, ticket_of}
@@ -39,26 +39,26 @@ module _ {V I N : Type 0} (items : V → List I) (by : I → ℕ) (name : V → 
   kept_set log log' views me v w at grows j k =
       let other : k.seat ≢ me = λ same. knows_not_spent views me v at (subst (IsSpent views) same k.spent) in
       let apart : j.number ≢ me + 1 = let n = k.numbered in λ e. other (omega arith) in record {
-    seat = k.seat;
-    numbered = k.numbered;
-    spent = set_else views me k.seat (Live w) other ∙ k.spent;
-    prefix = prefix_more j.seen log grows.0 log' k.prefix grows.1;
-    own = items_by-others by (me + 1) j.number log log' grows apart ∙ k.own;
-  }
+        seat = k.seat;
+        numbered = k.numbered;
+        spent = set_else views me k.seat (Live w) other ∙ k.spent;
+        prefix = prefix_more j.seen log grows.0 log' k.prefix grows.1;
+        own = items_by-others by (me + 1) j.number log log' grows apart ∙ k.own;
+      }
 
   -- what another seat knows stays so, where the list grows by this seat's items alone
   pub others_fit : (log log' : List I) (served served' : ℕ) (views : Views) (me : ℕ) (v w : Known I N) → Knows views me v → GrowsBy by (me + 1) log log' → (seat : ℕ) (k : Known I N) → seat ≢ me
       → Fit log served views seat k → ((t : ℕ) → k.place ≡ Inside t → (t ≡ served') × (k.seen ≡ log')) → Fit log' served' (set views me (Live w)) seat k
   others_fit log log' served served' views me v w at grows seat k other f turn =
       let apart : k.number ≢ me + 1 = let n = f.numbered in λ e. other (omega arith) in record {
-    numbered = f.numbered;
-    named = f.named;
-    prefix = prefix_more k.seen log grows.0 log' f.prefix grows.1;
-    own = items_by-others by (me + 1) k.number log log' grows apart ∙ f.own;
-    turn = turn;
-    last = λ newest. length-set views me (Live w) ∙ f.last newest;
-    kept = All-weaker (Kept log views) (Kept log' (set views me (Live w))) (kept_set log log' views me v w at grows) k.joined f.kept;
-  }
+        numbered = f.numbered;
+        named = f.named;
+        prefix = prefix_more k.seen log grows.0 log' f.prefix grows.1;
+        own = items_by-others by (me + 1) k.number log log' grows apart ∙ f.own;
+        turn = turn;
+        last = λ newest. length-set views me (Live w) ∙ f.last newest;
+        kept = All-weaker (Kept log views) (Kept log' (set views me (Live w))) (kept_set log log' views me v w at grows) k.joined f.kept;
+      }
 
   pub mine_fits : (log log' : List I) (served served' : ℕ) (views : Views) (me : ℕ) (v : Known I N) (place : Place) (seen : List I) → Knows views me v → GrowsBy by (me + 1) log log'
       → Fit log served views me v → IsPrefix seen log' → items_by by v.number log' ≡ items_by by v.number seen → ((t : ℕ) → place ≡ Inside t → (t ≡ served') × (seen ≡ log'))
@@ -92,13 +92,13 @@ module _ {V I N : Type 0} (items : V → List I) (by : I → ℕ) (name : V → 
       → IsOut items by name called homes (set views me (Live w))
   out_set homes views me v w at away h =
       let other : h.seat ≢ me = λ same. away h.ticket (ap (λ (x : Known I N). x.place) (knows_one views me v h.known at (subst (λ (n : ℕ). Knows views n h.known) same h.there)) ∙ h.inside) in record {
-    seat = h.seat;
-    known = h.known;
-    ticket = h.ticket;
-    there = set_else views me h.seat (Live w) other ∙ h.there;
-    inside = h.inside;
-    gone = h.gone;
-  }
+        seat = h.seat;
+        known = h.known;
+        ticket = h.ticket;
+        there = set_else views me h.seat (Live w) other ∙ h.there;
+        inside = h.inside;
+        gone = h.gone;
+      }
 
   module _ (callers : ℕ) where
     abbrev pub St : Type 0
@@ -131,22 +131,22 @@ module _ {V I N : Type 0} (items : V → List I) (by : I → ℕ) (name : V → 
         let many : length (set s.views me (Live w)) ≡ length s.views = length-set s.views me (Live w) in
         let below = seat_below s.views me (Live v) at in
         let Author : I → Type 0 = λ x. (0 < by x) × (by x ≤ length s.views) in record {
-      log = log;
-      served = served;
-      drawn = drawn;
-      words = words_are;
-      line = line;
-      slot = slot;
-      fits = λ seat k there. ⊎_elim
-          (λ (e : (seat ≡ me) × (w ≡ k)). subst (λ (x : ℕ × Known I N). Fit log served (set s.views me (Live w)) x.0 x.1) (λ i. (sym e.0 i, e.1 i))
+          log = log;
+          served = served;
+          drawn = drawn;
+          words = words_are;
+          line = line;
+          slot = slot;
+          fits = λ seat k there. ⊎_elim
+              (λ (e : (seat ≡ me) × (w ≡ k)). subst (λ (x : ℕ × Known I N). Fit log served (set s.views me (Live w)) x.0 x.1) (λ i. (sym e.0 i, e.1 i))
               (mine_fits r.log log r.served served s.views me v place seen at grows (r.fits me v at) prefix own mine))
-          (λ (e : (seat ≢ me) × Knows s.views seat k). others_fit r.log log r.served served s.views me v w at grows seat k e.0 (r.fits seat k e.1) (λ t. others seat k t e.0 e.1))
-          (knows_set s.views me w seat k there);
-      authors = subst (λ (n : ℕ). All (λ x. (0 < by x) × (by x ≤ n)) log) (sym many)
-          (All-same Author log (r.log ++ grows.0) grows.1
-          (All-append Author r.log grows.0 r.authors (All-weaker (λ x. by x ≡ me + 1) Author (λ x e. (omega arith, omega arith)) grows.0 grows.2)));
-      few = subst (λ (n : ℕ). (n ≤ callers) × (callers ≤ 64)) (sym many) r.few;
-    }
+              (λ (e : (seat ≢ me) × Knows s.views seat k). others_fit r.log log r.served served s.views me v w at grows seat k e.0 (r.fits seat k e.1) (λ t. others seat k t e.0 e.1))
+              (knows_set s.views me w seat k there);
+          authors = subst (λ (n : ℕ). All (λ x. (0 < by x) × (by x ≤ n)) log) (sym many)
+              (All-same Author log (r.log ++ grows.0) grows.1
+              (All-append Author r.log grows.0 r.authors (All-weaker (λ x. by x ≡ me + 1) Author (λ x e. (omega arith, omega arith)) grows.0 grows.2)));
+          few = subst (λ (n : ℕ). (n ≤ callers) × (callers ≤ 64)) (sym many) r.few;
+        }
 
     -- a step that changes nothing
     pub keeps_same : (s : St) (r : Rule s) (me : ℕ) (v : View I N) (word : ℕ) → get_elem? s.views me ≡ some v → Rule record { words = set s.words word (get_or s.words word 0); homes = s.homes; views = set s.views me v }

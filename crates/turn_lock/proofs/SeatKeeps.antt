@@ -1,24 +1,22 @@
 -- The rule as the lock is made, as a seat is made or joined into another, and at the end.
-use Rattle.std.proofs.Common.{◌≡◌, ◌≢◌, ℕ, zero, suc, ◌+◌, ◌^◌, ◌%◌, ◌<◌, ◌≤◌, List, [], ◌∷◌, ◌++◌, ◌⊎◌, length, map, set, refl, sym, ap, ◌∙◌, inl, inr, ⊎_elim, subst, Bool, true, false, arith, length-set, length-append}
+use Rattle.std.proofs.Common.{◌≡◌, ◌≢◌, ℕ, zero, suc, ◌+◌, ◌<◌, ◌≤◌, List, [], ◌∷◌, ◌++◌, ◌⊎◌, length, set, refl, sym, ap, ◌∙◌, inl, inr, ⊎_elim, subst, true, false, arith, length-set, length-append}
 use Rattle.std.specs.Prelude.{Option, Some, None, All}
-use Rattle.std.proofs.lemmas.List.Elements.{All-weaker, All-append, All-nil, All-cons, All-same}
-use mathlib.Core.Option.{Option as Maybe, some, none, some-injective, some-ne-none}
-use lib.ListN.{get_elem?, get_or}
+use Rattle.std.proofs.lemmas.List.Elements.{All-weaker, All-nil, All-cons}
+use mathlib.Core.Option.{Option as Maybe, some, some-injective, some-ne-none}
+use lib.ListN.{get_elem?}
 use Rattle.atomic_table.specs.Table.{State, Splits, Joins, opening}
-use Rattle.atomic_table.proofs.Lists.{at_set, set_here, set_else, at_longer}
-use Rattle.turn_lock.specs.declared.view.Place.{Place}
-use Rattle.turn_lock.specs.declared.view.Place.TheVariants.{Away, Waiting, Inside}
+use Rattle.atomic_table.proofs.Lists.{set_here, set_else, at_longer}
+use Rattle.turn_lock.specs.declared.view.Place.TheVariants.{Away, Inside}
 use Rattle.turn_lock.specs.declared.view.Joined.{Joined}
 use Rattle.turn_lock.specs.declared.view.Known.{Known}
 use Rattle.turn_lock.specs.declared.view.View.{View}
 use Rattle.turn_lock.specs.declared.view.View.TheVariants.{Live, Spent}
-use Rattle.turn_lock.specs.Lists.{IsPrefix, items_by, GrowsBy}
 use Rattle.turn_lock.specs.Views.{Knows, IsSpent, newcomer}
-use Rattle.turn_lock.specs.Line.{IsLine, ticket_of, has_ticket}
+use Rattle.turn_lock.specs.Line.{ticket_of}
 use Rattle.turn_lock.specs.Rule.{IsHome, IsOut, IsKept, Fits, TakesTurns}
 use Rattle.turn_lock.specs.Steps.{Seated, apart, older, newer, joined_with}
 use Rattle.turn_lock.proofs.LogLemmas.{items_by-none}
-use Rattle.turn_lock.proofs.ViewLemmas.{knows_set, knows_spent, knows_one, knows_not_spent, live_same, live_not_spent, seat_below}
+use Rattle.turn_lock.proofs.ViewLemmas.{knows_set, knows_spent, knows_one, knows_not_spent, live_same, seat_below}
 use Rattle.turn_lock.proofs.RuleKeeps.{home_set, out_set}
 use Rattle.turn_lock.proofs.LineKeeps.{line_same, line_longer, line_spent}
 
@@ -40,34 +38,34 @@ module _ {V I N : Type 0} (items : V → List I) (by : I → ℕ) (name : V → 
   opens value nothing named some_caller few =
       let views : List (View I N) = Live (newcomer 1 called) ∷ [] in
       let only : (seat : ℕ) (k : Known I N) → Knows views seat k → (seat ≡ 0) × (newcomer 1 called ≡ k) = first_alone (newcomer 1 called) in record {
-    log = [];
-    served = 0;
-    drawn = 0;
-    words = refl;
-    line = record {
-      within = λ seat k t at is. absurd (let h : None ≡ Some t = ap (λ (x : Known I N). ticket_of x.place) (only seat k at).1 ∙ is in cc);
-      apart = λ seat other k l t at at' is is'. (only seat k at).0 ∙ sym (only other l at').0;
-      each = refl;
-    };
-    slot = inl record {
-      value = value;
-      there = refl;
-      list = nothing;
-      named = named;
-      empty = λ seat k t at is. let h : Away ≡ Inside t = ap (λ (x : Known I N). x.place) (only seat k at).1 ∙ is in cc;
-    };
-    fits = λ seat k at. let h = only seat k at in subst (λ (x : ℕ × Known I N). Fits items by name called [] 0 views x.0 x.1) (λ i. (sym h.0 i, h.1 i)) record {
-      numbered = refl;
-      named = refl;
-      prefix = ([], refl);
-      own = refl;
-      turn = λ t is. absurd (let clash : Away ≡ Inside t = is in cc);
-      last = λ _. refl;
-      kept = All-nil (Kept [] views);
-    };
-    authors = All-nil (λ x. (0 < by x) × (by x ≤ 1));
-    few = (some_caller, few);
-  }
+        log = [];
+        served = 0;
+        drawn = 0;
+        words = refl;
+        line = record {
+          within = λ seat k t at is. absurd (let h : None ≡ Some t = ap (λ (x : Known I N). ticket_of x.place) (only seat k at).1 ∙ is in cc);
+          apart = λ seat other k l t at at' is is'. (only seat k at).0 ∙ sym (only other l at').0;
+          each = refl;
+        };
+        slot = inl record {
+          value = value;
+          there = refl;
+          list = nothing;
+          named = named;
+          empty = λ seat k t at is. let h : Away ≡ Inside t = ap (λ (x : Known I N). x.place) (only seat k at).1 ∙ is in cc;
+        };
+        fits = λ seat k at. let h = only seat k at in subst (λ (x : ℕ × Known I N). Fits items by name called [] 0 views x.0 x.1) (λ i. (sym h.0 i, h.1 i)) record {
+          numbered = refl;
+          named = refl;
+          prefix = ([], refl);
+          own = refl;
+          turn = λ t is. absurd (let clash : Away ≡ Inside t = is in cc);
+          last = λ _. refl;
+          kept = All-nil (Kept [] views);
+        };
+        authors = All-nil (λ x. (0 < by x) × (by x ≤ 1));
+        few = (some_caller, few);
+      }
     where
       first_alone : (k₀ : Known I N) (seat : ℕ) (k : Known I N) → Knows (Live k₀ ∷ []) seat k → (seat ≡ 0) × (k₀ ≡ k)
       first_alone k₀ zero k e = (refl, live_same k₀ k (some-injective _ _ e))
@@ -128,20 +126,20 @@ module _ {V I N : Type 0} (items : V → List I) (by : I → ℕ) (name : V → 
         own = h.own;
       } in
       let cases : (seat : ℕ) (l : Known I N) → Knows views seat l → (((seat ≡ id) × (old ≡ l)) ⊎ ((seat ≢ id) × Knows s.views seat l)) ⊎ ((seat ≡ length mid) × (new ≡ l)) = λ seat l there. ⊎_elim
-          (λ (h : Knows mid seat l). inl (knows_set s.views id old seat l h))
-          (λ (h : (seat ≡ length mid) × (Live new ≡ Live l)). inr (h.0, live_same new l h.1))
-          (at_end mid (Live new) (Live l) seat there) in record {
-    log = r.log;
-    served = r.served;
-    drawn = r.drawn;
-    words = r.words;
-    line = line_longer r.served r.drawn mid new (line_same r.served r.drawn s.views id k old r.line at refl) refl;
-    slot = ⊎_elim
-        (λ (h : Home r.log s.homes s.views). inl (home_longer r.log s.homes mid new refl (home_set items by name called r.log s.homes s.views id old not_in h)))
-        (λ (h : Out s.homes s.views). inr (out_longer s.homes mid new (out_set items by name called s.homes s.views id k old at not_in h)))
-        r.slot;
-    fits = λ seat l there. ⊎_elim
-        (λ (h : ((seat ≡ id) × (old ≡ l)) ⊎ ((seat ≢ id) × Knows s.views seat l)). ⊎_elim
+      (λ (h : Knows mid seat l). inl (knows_set s.views id old seat l h))
+      (λ (h : (seat ≡ length mid) × (Live new ≡ Live l)). inr (h.0, live_same new l h.1))
+      (at_end mid (Live new) (Live l) seat there) in record {
+        log = r.log;
+        served = r.served;
+        drawn = r.drawn;
+        words = r.words;
+        line = line_longer r.served r.drawn mid new (line_same r.served r.drawn s.views id k old r.line at refl) refl;
+        slot = ⊎_elim
+            (λ (h : Home r.log s.homes s.views). inl (home_longer r.log s.homes mid new refl (home_set items by name called r.log s.homes s.views id old not_in h)))
+            (λ (h : Out s.homes s.views). inr (out_longer s.homes mid new (out_set items by name called s.homes s.views id k old at not_in h)))
+            r.slot;
+        fits = λ seat l there. ⊎_elim
+            (λ (h : ((seat ≡ id) × (old ≡ l)) ⊎ ((seat ≢ id) × Knows s.views seat l)). ⊎_elim
             (λ (e : (seat ≡ id) × (old ≡ l)). subst (λ (x : ℕ × Known I N). Fits items by name called r.log r.served views x.0 x.1) (λ i. (sym e.0 i, e.1 i)) record {
               numbered = f.numbered;
               named = f.named;
@@ -161,19 +159,19 @@ module _ {V I N : Type 0} (items : V → List I) (by : I → ℕ) (name : V → 
               kept = All-weaker (Kept r.log s.views) (Kept r.log views) spent l.joined g.kept;
             })
             h)
-        (λ (e : (seat ≡ length mid) × (new ≡ l)). subst (λ (x : ℕ × Known I N). Fits items by name called r.log r.served views x.0 x.1) (λ i. (sym e.0 i, e.1 i)) record {
-          numbered = let n = f.numbered in omega arith;
-          named = f.named;
-          prefix = (r.log, refl);
-          own = items_by-none by (k.number + 1) r.log (All-weaker (λ x. (0 < by x) × (by x ≤ length s.views)) (λ x. by x ≢ k.number + 1) (λ x h e. let n = f.numbered in omega arith) r.log r.authors);
-          turn = λ t is. absurd (let clash : Away ≡ Inside t = is in cc);
-          last = λ _. more;
-          kept = All-nil (Kept r.log views);
-        })
-        (cases seat l there);
-    authors = All-weaker (λ x. (0 < by x) × (by x ≤ length s.views)) (λ x. (0 < by x) × (by x ≤ length views)) (λ x h. (h.0, omega arith)) r.log r.authors;
-    few = let n = f.numbered in (omega arith, r.few.1);
-  }
+            (λ (e : (seat ≡ length mid) × (new ≡ l)). subst (λ (x : ℕ × Known I N). Fits items by name called r.log r.served views x.0 x.1) (λ i. (sym e.0 i, e.1 i)) record {
+              numbered = let n = f.numbered in omega arith;
+              named = f.named;
+              prefix = (r.log, refl);
+              own = items_by-none by (k.number + 1) r.log (All-weaker (λ x. (0 < by x) × (by x ≤ length s.views)) (λ x. by x ≢ k.number + 1) (λ x h e. let n = f.numbered in omega arith) r.log r.authors);
+              turn = λ t is. absurd (let clash : Away ≡ Inside t = is in cc);
+              last = λ _. more;
+              kept = All-nil (Kept r.log views);
+            })
+            (cases seat l there);
+        authors = All-weaker (λ x. (0 < by x) × (by x ≤ length s.views)) (λ x. (0 < by x) × (by x ≤ length views)) (λ x h. (h.0, omega arith)) r.log r.authors;
+        few = let n = f.numbered in (omega arith, r.few.1);
+      }
 
   -- a seat is joined into another
   pub joins : (id other : ℕ) (k l : Known I N) → k.place ≡ Away → l.place ≡ Away → Joins R id (Live k) other (Live l) (joined_with (Live k) (Live l)) Spent
@@ -189,48 +187,48 @@ module _ {V I N : Type 0} (items : V → List I) (by : I → ℕ) (name : V → 
       let not_in : (t : ℕ) → k.place ≢ Inside t = λ t e. let clash : Away ≡ Inside t = sym away ∙ e in cc in
       let not_in' : (t : ℕ) → l.place ≢ Inside t = λ t e. let clash : Away ≡ Inside t = sym away' ∙ e in cc in
       let kept : (i : Joined I) → Kept r.log s.views i → Kept r.log views i = λ i h.
-          let ne : h.seat ≢ id = λ same. knows_not_spent s.views id k at (subst (IsSpent s.views) same h.spent) in
-          let ne' : h.seat ≢ other = λ same. knows_not_spent s.views other l there (subst (IsSpent s.views) same h.spent) in record {
+      let ne : h.seat ≢ id = λ same. knows_not_spent s.views id k at (subst (IsSpent s.views) same h.spent) in
+      let ne' : h.seat ≢ other = λ same. knows_not_spent s.views other l there (subst (IsSpent s.views) same h.spent) in record {
         seat = h.seat;
         numbered = h.numbered;
         spent = set_else mid other h.seat Spent ne' ∙ (set_else s.views id h.seat (Live new) ne ∙ h.spent);
         prefix = h.prefix;
         own = h.own;
       } in record {
-    log = r.log;
-    served = r.served;
-    drawn = r.drawn;
-    words = r.words;
-    line = line_spent r.served r.drawn mid other l (line_same r.served r.drawn s.views id k new r.line at refl) at' away';
-    slot = ⊎_elim
-        (λ (h : Home r.log s.homes s.views). inl (home_spent r.log s.homes mid other (home_set items by name called r.log s.homes s.views id new not_in h)))
-        (λ (h : Out s.homes s.views). inr (out_spent s.homes mid other l at' not_in' (out_set items by name called s.homes s.views id k new at not_in h)))
-        r.slot;
-    fits = λ seat x here. let e = knows_spent mid other seat x here in ⊎_elim
-        (λ (h : (seat ≡ id) × (new ≡ x)). subst (λ (y : ℕ × Known I N). Fits items by name called r.log r.served views y.0 y.1) (λ i. (sym h.0 i, h.1 i)) record {
-          numbered = f.numbered;
-          named = f.named;
-          prefix = f.prefix;
-          own = f.own;
-          turn = f.turn;
-          last = λ newest. many ∙ f.last newest;
-          kept = All-cons (Kept r.log views) j k.joined
-              record { seat = other; numbered = g.numbered; spent = set_here mid other Spent (seat_below mid other (Live l) at'); prefix = g.prefix; own = g.own }
-              (All-weaker (Kept r.log s.views) (Kept r.log views) kept k.joined f.kept);
-        })
-        (λ (h : (seat ≢ id) × Knows s.views seat x). let y = r.fits seat x h.1 in record {
-          numbered = y.numbered;
-          named = y.named;
-          prefix = y.prefix;
-          own = y.own;
-          turn = y.turn;
-          last = λ newest. many ∙ y.last newest;
-          kept = All-weaker (Kept r.log s.views) (Kept r.log views) kept x.joined y.kept;
-        })
-        (knows_set s.views id new seat x e.1);
-    authors = subst (λ (n : ℕ). All (λ x. (0 < by x) × (by x ≤ n)) r.log) (sym many) r.authors;
-    few = subst (λ (n : ℕ). (n ≤ callers) × (callers ≤ 64)) (sym many) r.few;
-  }
+        log = r.log;
+        served = r.served;
+        drawn = r.drawn;
+        words = r.words;
+        line = line_spent r.served r.drawn mid other l (line_same r.served r.drawn s.views id k new r.line at refl) at' away';
+        slot = ⊎_elim
+            (λ (h : Home r.log s.homes s.views). inl (home_spent r.log s.homes mid other (home_set items by name called r.log s.homes s.views id new not_in h)))
+            (λ (h : Out s.homes s.views). inr (out_spent s.homes mid other l at' not_in' (out_set items by name called s.homes s.views id k new at not_in h)))
+            r.slot;
+        fits = λ seat x here. let e = knows_spent mid other seat x here in ⊎_elim
+            (λ (h : (seat ≡ id) × (new ≡ x)). subst (λ (y : ℕ × Known I N). Fits items by name called r.log r.served views y.0 y.1) (λ i. (sym h.0 i, h.1 i)) record {
+              numbered = f.numbered;
+              named = f.named;
+              prefix = f.prefix;
+              own = f.own;
+              turn = f.turn;
+              last = λ newest. many ∙ f.last newest;
+              kept = All-cons (Kept r.log views) j k.joined
+                  record { seat = other; numbered = g.numbered; spent = set_here mid other Spent (seat_below mid other (Live l) at'); prefix = g.prefix; own = g.own }
+                  (All-weaker (Kept r.log s.views) (Kept r.log views) kept k.joined f.kept);
+            })
+            (λ (h : (seat ≢ id) × Knows s.views seat x). let y = r.fits seat x h.1 in record {
+              numbered = y.numbered;
+              named = y.named;
+              prefix = y.prefix;
+              own = y.own;
+              turn = y.turn;
+              last = λ newest. many ∙ y.last newest;
+              kept = All-weaker (Kept r.log s.views) (Kept r.log views) kept x.joined y.kept;
+            })
+            (knows_set s.views id new seat x e.1);
+        authors = subst (λ (n : ℕ). All (λ x. (0 < by x) × (by x ≤ n)) r.log) (sym many) r.authors;
+        few = subst (λ (n : ℕ). (n ≤ callers) × (callers ≤ 64)) (sym many) r.few;
+      }
 
   pub may_split : (id number : ℕ) (n : N) (me : Seated V I N) → me ≡ apart (newcomer number n) → number < callers → Splits R id me.0 (older me.0) (newer me.0)
   may_split id number n me is room = subst (λ (m : Seated V I N). Splits R id m.0 (older m.0) (newer m.0)) (sym is) (splits id (newcomer number n) refl refl room)

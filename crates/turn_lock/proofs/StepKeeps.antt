@@ -1,6 +1,6 @@
 -- Each kind of step keeps the rule, and tells its seat what it should.
-use Rattle.std.proofs.Common.{◌≡◌, ◌≢◌, ℕ, zero, suc, ◌+◌, ◌^◌, ◌%◌, ◌<◌, ◌≤◌, List, [], ◌∷◌, ◌++◌, ◌⊎◌, length, set, refl, sym, ap, ◌∙◌, inl, inr, ⊎_elim, subst, Bool, true, false, arith, eq-eqb, ne_eqb}
-use Rattle.std.specs.Prelude.{Option, Some, None, ◌==◌, MatchBool}
+use Rattle.std.proofs.Common.{◌≡◌, ◌≢◌, ℕ, ◌+◌, ◌^◌, ◌%◌, List, [], ◌∷◌, length, set, refl, sym, ap, ◌∙◌, inl, inr, ⊎_elim, subst, arith, eq-eqb, ne_eqb}
+use Rattle.std.specs.Prelude.{Option, Some, ◌==◌, MatchBool}
 use Rattle.std.proofs.Math.Nat.{mod-add-mod}
 use Rattle.std.proofs.lemmas.List.Sums.{count_by-le-length}
 use mathlib.Core.Option.{Option as Maybe, some, none}
@@ -9,16 +9,15 @@ use native.Mathlib.Decide.{ℕ_discrete}
 use lib.ListN.{get_elem?, get_or}
 use Rattle.atomic_table.specs.Table.{State, Act, keeps, takes, gives, Valid, stepped, carried_after, Allows}
 use lib.Seq.{set-get_or}
-use Rattle.atomic_table.proofs.Lists.{set_here, set_else, one_turn}
-use Rattle.turn_lock.specs.declared.view.Place.{Place}
+use Rattle.atomic_table.proofs.Lists.{set_here, one_turn}
 use Rattle.turn_lock.specs.declared.view.Place.TheVariants.{Away, Waiting, Inside}
 use Rattle.turn_lock.specs.declared.view.Known.{Known}
 use Rattle.turn_lock.specs.declared.view.View.{View}
-use Rattle.turn_lock.specs.declared.view.View.TheVariants.{Live, Spent}
+use Rattle.turn_lock.specs.declared.view.View.TheVariants.{Live}
 use Rattle.turn_lock.specs.Lists.{IsPrefix, items_by, GrowsBy}
-use Rattle.turn_lock.specs.Views.{Knows, IsSpent}
-use Rattle.turn_lock.specs.Line.{IsLine, ticket_of, has_ticket}
-use Rattle.turn_lock.specs.Rule.{IsHome, IsOut, Fits, TakesTurns}
+use Rattle.turn_lock.specs.Views.{Knows}
+use Rattle.turn_lock.specs.Line.{ticket_of, has_ticket}
+use Rattle.turn_lock.specs.Rule.{IsHome, IsOut, TakesTurns}
 use Rattle.turn_lock.specs.Steps.{Seated, at_place, seeing, MayDraw, Draws, MayLook, Enters, ComesIn, Looks, MayNote, Notes, MayPassOn, PassesOn}
 use Rattle.turn_lock.proofs.LogLemmas.{prefix_same, grows_same}
 use Rattle.turn_lock.proofs.ViewLemmas.{knows_set, knows_one, live_same, seat_below}
@@ -76,10 +75,10 @@ module _ {V I N : Type 0} (items : V → List I) (by : I → ℕ) (name : V → 
   at_home s r me t k at waits same = ⊎_elim
       (λ (h : IsHome items by name called r.log s.homes s.views). h)
       (λ (h : IsOut items by name called s.homes s.views).
-          let turn = (r.fits h.seat h.known h.there).turn h.ticket h.inside in
-          let here : h.seat ≡ me = r.line.apart h.seat me h.known k t h.there at (ap ticket_of h.inside ∙ ap (λ (n : ℕ). Some n) (turn.0 ∙ same)) (ap ticket_of waits) in
-          let one : k ≡ h.known = knows_one s.views me k h.known at (subst (λ (n : ℕ). Knows s.views n h.known) here h.there) in
-          let clash : Waiting t ≡ Inside h.ticket = sym waits ∙ (ap (λ (x : Known I N). x.place) one ∙ h.inside) in absurd cc)
+      let turn = (r.fits h.seat h.known h.there).turn h.ticket h.inside in
+      let here : h.seat ≡ me = r.line.apart h.seat me h.known k t h.there at (ap ticket_of h.inside ∙ ap (λ (n : ℕ). Some n) (turn.0 ∙ same)) (ap ticket_of waits) in
+      let one : k ≡ h.known = knows_one s.views me k h.known at (subst (λ (n : ℕ). Knows s.views n h.known) here h.there) in
+      let clash : Waiting t ≡ Inside h.ticket = sym waits ∙ (ap (λ (x : Known I N). x.place) one ∙ h.inside) in absurd cc)
       r.slot
 
   tells : (k : Known I N) (t n : ℕ) (after : Seated V I N) → k.place ≡ Waiting t → (n ≡ t % 2 ^ 64 → Enters items by name k t after) × (n ≢ t % 2 ^ 64 → after ≡ (Live k, []))
@@ -119,8 +118,8 @@ module _ {V I N : Type 0} (items : V → List I) (by : I → ℕ) (name : V → 
   pub looks : (slots me t : ℕ) (k : Known I N) → k.place ≡ Waiting t → Allows R slots me (Live k, []) 1 (λ n. n) (Looks items by name (Live k, []))
   looks slots me t k waits s r _ at _ = dite (ℕ_discrete (get_or s.words 1 0) (t % 2 ^ 64))
       (λ found.
-          let word : get_or s.words 1 0 ≡ r.served % 2 ^ 64 = ap (λ (ws : List ℕ). get_or ws 1 0) r.words in
-          comes_in s r me t k at waits (served_is s r me t k at (ap ticket_of waits) (sym word ∙ found)) found)
+      let word : get_or s.words 1 0 ≡ r.served % 2 ^ 64 = ap (λ (ws : List ℕ). get_or ws 1 0) r.words in
+      comes_in s r me t k at waits (served_is s r me t k at (ap ticket_of waits) (sym word ∙ found)) found)
       (λ other. (
         Live k,
         keeps,
@@ -206,7 +205,7 @@ module _ {V I N : Type 0} (items : V → List I) (by : I → ℕ) (name : V → 
   pub looked : (found ticket : ℕ) (before after : Seated V I N) → MayLook before ticket → Looks items by name before found after → MatchBool (found == ticket) (ComesIn items by name before after) (after ≡ before)
   looked found ticket before after h looks = dite (ℕ_discrete found ticket)
       (λ same. rw (eq-eqb found ticket same) (λ k t is waits.
-          let one : h.known ≡ k = live_same h.known k (ap (λ (m : Seated V I N). m.0) (sym h.is ∙ is)) in
-          let tickets : h.ticket ≡ t = let e : Waiting h.ticket ≡ Waiting t = sym h.waits ∙ (ap (λ (x : Known I N). x.place) one ∙ waits) in cc in
-          (looks k t is waits).0 (same ∙ (h.same ∙ ap (λ (n : ℕ). n % 2 ^ 64) tickets))))
+      let one : h.known ≡ k = live_same h.known k (ap (λ (m : Seated V I N). m.0) (sym h.is ∙ is)) in
+      let tickets : h.ticket ≡ t = let e : Waiting h.ticket ≡ Waiting t = sym h.waits ∙ (ap (λ (x : Known I N). x.place) one ∙ waits) in cc in
+      (looks k t is waits).0 (same ∙ (h.same ∙ ap (λ (n : ℕ). n % 2 ^ 64) tickets))))
       (λ other. rw (ne_eqb found ticket other) ((looks h.known h.ticket h.is h.waits).1 (λ e. other (e ∙ sym h.same))))

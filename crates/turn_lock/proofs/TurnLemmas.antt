@@ -1,12 +1,11 @@
 -- A turn from the pass that enters to the pass that leaves.
-use Rattle.std.proofs.Common.{◌≡◌, ℕ, ◌^◌, ◌%◌, ◌<◌, List, [], ◌∷◌, length, get_or, refl, sym, ap, ◌∙◌, subst}
+use Rattle.std.proofs.Common.{◌≡◌, ℕ, ◌^◌, ◌<◌, List, [], ◌∷◌, length, get_or, refl, sym, ap, ◌∙◌, subst}
 use Rattle.std.specs.Prelude.{Option, Some, None}
 use Rattle.atomic_table.specs.Seated.{TableId}
 use Rattle.turn_lock.specs.declared.view.Place.TheVariants.{Away, Waiting, Inside}
 use Rattle.turn_lock.specs.declared.view.Known.{Known}
-use Rattle.turn_lock.specs.declared.view.View.{View}
 use Rattle.turn_lock.specs.Lists.{IsPrefix, items_by, GrowsBy}
-use Rattle.turn_lock.specs.Steps.{Seated, apart, holding, at_place, seeing, MayDraw, Draws, MayLook, Enters, ComesIn, MayNote, Notes, MayPassOn, PassesOn}
+use Rattle.turn_lock.specs.Steps.{Seated, holding, at_place, seeing, MayDraw, Draws, MayLook, Enters, ComesIn, MayNote, Notes, MayPassOn, PassesOn}
 use Rattle.turn_lock.specs.Held.{LockId, PassValue, pass_value, Rests, IsPassOf, TurnValue, turn_value, Holds, IsTurnOf}
 use Rattle.turn_lock.proofs.ViewLemmas.{live_same}
 
@@ -39,13 +38,13 @@ module _ {V I N : Type 0} (items : V → List I) (by : I → ℕ) (name : V → 
   pub took_out : (number : ℕ) (me drawn after left : Seated V I N) (found : ℕ) (h : Rests number me) → Draws me found drawn → ComesIn items by name drawn after → left ≡ (after.0, (0, None) ∷ []) → Holds number left
   took_out number me drawn after left found h draws comes is =
       let e = came_in number me drawn after found h draws comes in record {
-    known = seeing (at_place h.known (Inside e.ticket)) (items e.enters.value);
-    numbered = h.numbered;
-    ticket = e.ticket;
-    is = is ∙ ap (λ (m : Seated V I N). (m.0, (0, None) ∷ [])) e.enters.out;
-    inside = refl;
-    alone = h.alone;
-  }
+        known = seeing (at_place h.known (Inside e.ticket)) (items e.enters.value);
+        numbered = h.numbered;
+        ticket = e.ticket;
+        is = is ∙ ap (λ (m : Seated V I N). (m.0, (0, None) ∷ [])) e.enters.out;
+        inside = refl;
+        alone = h.alone;
+      }
 
   -- what the turn shows of what the pass showed
   pub record Entered (p : PassValue I N) (t : TurnValue V I N) (value : V) : Type 0 where
@@ -71,14 +70,14 @@ module _ {V I N : Type 0} (items : V → List I) (by : I → ℕ) (name : V → 
       let seen : p.seen ≡ k.seen = ap (λ (x : PassValue I N). x.seen) h.shows in
       let number : p.number ≡ k.number = ap (λ (x : PassValue I N). x.number) h.shows in
       let lock : p.lock ≡ lock_of table k.name = ap (λ (x : PassValue I N). x.lock) h.shows in record {
-    lock = ap (λ (x : TurnValue V I N). x.lock) shows ∙ (ap (λ (z : TableId). lock_of z k.name) same ∙ sym lock);
-    number = ap (λ (x : TurnValue V I N). x.number) shows ∙ sym number;
-    found = list ∙ ap items one;
-    value_is = ap (λ (x : TurnValue V I N). x.value) shows;
-    named = ap name (sym one) ∙ (e.enters.named ∙ sym (ap (λ (l : LockId N). l.name) lock));
-    prefix = subst (λ (x : List I × List I). IsPrefix x.0 x.1) (λ i. (sym seen i, sym list i)) e.enters.prefix;
-    own = subst (λ (x : ℕ × List I × List I). items_by by x.0 x.2 ≡ items_by by x.0 x.1) (λ i. (sym number i, sym seen i, sym list i)) e.enters.own;
-  }
+        lock = ap (λ (x : TurnValue V I N). x.lock) shows ∙ (ap (λ (z : TableId). lock_of z k.name) same ∙ sym lock);
+        number = ap (λ (x : TurnValue V I N). x.number) shows ∙ sym number;
+        found = list ∙ ap items one;
+        value_is = ap (λ (x : TurnValue V I N). x.value) shows;
+        named = ap name (sym one) ∙ (e.enters.named ∙ sym (ap (λ (l : LockId N). l.name) lock));
+        prefix = subst (λ (x : List I × List I). IsPrefix x.0 x.1) (λ i. (sym seen i, sym list i)) e.enters.prefix;
+        own = subst (λ (x : ℕ × List I × List I). items_by by x.0 x.2 ≡ items_by by x.0 x.1) (λ i. (sym number i, sym seen i, sym list i)) e.enters.own;
+      }
 
   -- from the turn to the pass
   module _ (t : TurnValue V I N) (table : TableId) (me put : Seated V I N) (value : V) (h : IsTurnOf t table me value) (is : put ≡ (me.0, (0, Some value) ∷ [])) where
@@ -127,7 +126,7 @@ module _ {V I N : Type 0} (items : V → List I) (by : I → ℕ) (name : V → 
         let rests = rests_again noted passed notes passes in
         let known : pass.seat.known ≡ rests.known = live_same pass.seat.known rests.known (ap (λ (m : Seated V I N). m.0) (sym pass.seat.is ∙ rests.is)) in
         let shows : p ≡ pass_value table' rests.known = pass.shows ∙ ap (pass_value table') known in record {
-      lock = ap (λ (x : PassValue I N). x.lock) shows ∙ (ap (λ (z : TableId). lock_of z h.seat.known.name) same ∙ sym (ap (λ (x : TurnValue V I N). x.lock) h.shows));
-      number = ap (λ (x : PassValue I N). x.number) shows ∙ sym (ap (λ (x : TurnValue V I N). x.number) h.shows);
-      seen = ap (λ (x : PassValue I N). x.seen) shows ∙ sym (ap (λ (x : TurnValue V I N). items x.value) h.shows);
-    }
+          lock = ap (λ (x : PassValue I N). x.lock) shows ∙ (ap (λ (z : TableId). lock_of z h.seat.known.name) same ∙ sym (ap (λ (x : TurnValue V I N). x.lock) h.shows));
+          number = ap (λ (x : PassValue I N). x.number) shows ∙ sym (ap (λ (x : TurnValue V I N). x.number) h.shows);
+          seen = ap (λ (x : PassValue I N). x.seen) shows ∙ sym (ap (λ (x : TurnValue V I N). items x.value) h.shows);
+        }

@@ -1,13 +1,12 @@
 -- Passes joined one after another.
-use Rattle.std.proofs.Common.{◌≡◌, ℕ, ◌-◌, take, List, [], ◌∷◌, ◌++◌, map, refl, sym, ap, ◌∙◌, subst, append_assoc}
+use Rattle.std.proofs.Common.{◌≡◌, ℕ, ◌-◌, take, List, [], ◌∷◌, ◌++◌, map, sym, ap, ◌∙◌, append_assoc}
 use mathlib.Core.List.{map-append}
 use Rattle.atomic_table.specs.Seated.{TableId}
 use Rattle.turn_lock.specs.declared.view.Place.TheVariants.{Away}
 use Rattle.turn_lock.specs.declared.view.Joined.{Joined}
 use Rattle.turn_lock.specs.declared.view.Known.{Known}
-use Rattle.turn_lock.specs.declared.view.View.{View}
 use Rattle.turn_lock.specs.Steps.{Seated, apart, joined_with}
-use Rattle.turn_lock.specs.Held.{PassValue, pass_value, Rests, IsPassOf}
+use Rattle.turn_lock.specs.Held.{PassValue, IsPassOf}
 use Rattle.turn_lock.specs.Passes.{joined_of, Unites}
 
 -- the passes that are left, and then what was joined, are all
@@ -39,14 +38,14 @@ module _ {V I N : Type 0} where
       let l = h.seat.known in
       let j : Joined I = record { number = l.number; seen = l.seen } in
       let last : List (Joined I) = record { number = k.number; seen = k.seen } ∷ [] in record {
-    known = record k { joined = j ∷ k.joined };
-    is = is ∙ λ i. (joined_with (u.is i).0 (h.seat.is i).0, (u.is i).1);
-    away = u.away;
-    split = u.split ∙ (ap (λ (xs : List (PassValue I N)). map joined_of xs ++ (k.joined ++ last)) e
-        ∙ (ap (λ (xs : List (Joined I)). xs ++ (k.joined ++ last)) (map-append joined_of left (q ∷ []))
-        ∙ (append_assoc (map joined_of left) (joined_of q ∷ []) (k.joined ++ last)
-        ∙ ap (λ (x : Joined I). map joined_of left ++ (x ∷ (k.joined ++ last))) (record_of q table him h))));
-  }
+        known = record k { joined = j ∷ k.joined };
+        is = is ∙ λ i. (joined_with (u.is i).0 (h.seat.is i).0, (u.is i).1);
+        away = u.away;
+        split = u.split ∙ (ap (λ (xs : List (PassValue I N)). map joined_of xs ++ (k.joined ++ last)) e
+            ∙ (ap (λ (xs : List (Joined I)). xs ++ (k.joined ++ last)) (map-append joined_of left (q ∷ []))
+            ∙ (append_assoc (map joined_of left) (joined_of q ∷ []) (k.joined ++ last)
+            ∙ ap (λ (x : Joined I). map joined_of left ++ (x ∷ (k.joined ++ last))) (record_of q table him h))));
+      }
 
   -- once none is left
   pub unions_all : (all left : List (PassValue I N)) (me : Seated V I N) → left ≡ [] → Unions all left me → Unites all me

@@ -1,11 +1,11 @@
 -- The views of the seats after one of them changed.
-use Rattle.std.proofs.Common.{◌≡◌, ◌≢◌, ℕ, zero, suc, ◌+◌, ◌<◌, List, [], ◌∷◌, ◌++◌, ◌⊎◌, length, set, get_or, refl, sym, ap, ◌∙◌, inl, inr, ⊎_elim, subst, Bool, cond, true, arith}
+use Rattle.std.proofs.Common.{◌≡◌, ◌≢◌, ℕ, zero, suc, ◌+◌, ◌<◌, List, [], ◌∷◌, ◌⊎◌, length, set, get_or, refl, sym, ap, ◌∙◌, inl, inr, ⊎_elim, Bool, cond, true, arith}
 use mathlib.Core.Bool.{false≢true}
 use Rattle.std.specs.Prelude.{count_by}
 use Rattle.std.proofs.lemmas.List.Sums.{sum_by-set}
 use mathlib.Core.Option.{some, some-injective, some-ne-none}
 use lib.ListN.{get_elem?}
-use Rattle.atomic_table.proofs.Lists.{at_set, set_else, at_last, at_longer}
+use Rattle.atomic_table.proofs.Lists.{at_set}
 use Rattle.turn_lock.specs.declared.view.Known.{Known}
 use Rattle.turn_lock.specs.declared.view.View.{View}
 use Rattle.turn_lock.specs.declared.view.View.TheVariants.{Live, Spent}

@@ -37,11 +37,7 @@ impl<V: Grows> Model for TurnLock<V> {
 
 impl<V: Grows> TurnLock<V> {
     /// A lock round a value whose list is empty, and a pass for each of 1 to 64 callers, numbered from 1. For want of memory the value comes back.
-    pub fn new(
-        alloc: Global,
-        value: V,
-        callers: u64,
-    ) -> Result<(TurnLock<V>, Vec<Pass<V>>), V>
+    pub fn new(alloc: Global, value: V, callers: u64) -> Result<(TurnLock<V>, Vec<Pass<V>>), V>
         requires callers { (1 ≤ callers) × (callers ≤ 64) }
         requires empty { V.items value ≡ [] }
         ensures name { IfOk result (λ made. made.0.id.name ≡ V.name value) }

@@ -31,12 +31,7 @@ fn look<V: Grows>(words: &LockWords<V>, seat: &mut LockSeat<V>, ticket: u64) -> 
 }
 
 /// Looks until the ticket is served.
-pub fn wait<V: Grows, R: Wait>(
-    rt: &R,
-    words: &LockWords<V>,
-    seat: &mut LockSeat<V>,
-    ticket: u64,
-)
+pub fn wait<V: Grows, R: Wait>(rt: &R, words: &LockWords<V>, seat: &mut LockSeat<V>, ticket: u64)
     requires words { (seat.old.table_id ≡ words.now.table_id) × (words.now.table_id.words ≡ 3) }
     requires waits { MayLook seat.old.me ticket }
     ensures table { seat.new.table_id ≡ seat.old.table_id }

@@ -19,6 +19,7 @@ struct Numbers {
 
 impl Grows for Numbers {
     type Item = u64;
+
     type Name = ();
 
     ghost items = { λ n. n.numbers.items };
@@ -93,7 +94,12 @@ fn add_all<R: Threads + Wait + Sync>(
 }
 
 // What so many callers leave, who each enter so many times. None for want of memory.
-fn numbers_of<R: Threads + Wait + Sync>(rt: &R, alloc: Global, callers: u64, rounds: u64) -> Option<Numbers>
+fn numbers_of<R: Threads + Wait + Sync>(
+    rt: &R,
+    alloc: Global,
+    callers: u64,
+    rounds: u64,
+) -> Option<Numbers>
     requires { (1 ≤ callers) × (callers ≤ 64) }
 {
     let value = Numbers {

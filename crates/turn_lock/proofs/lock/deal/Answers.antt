@@ -1,7 +1,7 @@
 use Rattle.std.proofs.Common.{rules, ◌≡◌, ℕ, subst, ◌∙◌}
 use Rattle.turn_lock.specs.Held.{Rests}
 use Rattle.turn_lock.proofs.SeatKeeps.{may_split}
-use Rattle.turn_lock.proofs.Dealing.{Dealt, dealt_more, dealt_all, stays_away, comes, first_pass, last_away, last_pass}
+use Rattle.turn_lock.proofs.Dealing.{dealt_more, dealt_all, stays_away, comes, first_pass, last_away, last_pass}
 use Rattle.turn_lock.proofs.lock.deal.Goals as goal
 
 pub split_seat-next-requires : goal.split_seat-next-requires

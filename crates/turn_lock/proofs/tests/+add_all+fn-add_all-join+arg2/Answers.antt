@@ -1,5 +1,4 @@
 use Rattle.std.proofs.lemmas.List.Elements.{AllZip-push}
-use Rattle.turn_lock.specs.Passes.{IsSameCaller}
 use Rattle.turn_lock.proofs.tests.+add_all+fn-add_all-join+arg2.Goals as goal
 
 pub returns-clause-same : goal.returns-clause-same

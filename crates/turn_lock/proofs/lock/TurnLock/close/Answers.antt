@@ -1,5 +1,5 @@
-use Rattle.std.proofs.Common.{◌≡◌, ℕ, ◌<◌, ◌≤◌, rules, ap, sym, subst, ◌∙◌, arith, vec_len, length}
-use Rattle.std.specs.Prelude.{All, Any, Some, None, Option}
+use Rattle.std.proofs.Common.{◌≡◌, ℕ, ◌<◌, ◌≤◌, ap, sym, subst, ◌∙◌, arith}
+use Rattle.std.specs.Prelude.{All, Any, Some, None}
 use Rattle.turn_lock.specs.Lists.{IsPrefix, items_by}
 use Rattle.turn_lock.specs.Held.{PassValue, LockValue}
 use Rattle.turn_lock.proofs.Closing.{Ends, ends}
@@ -17,8 +17,8 @@ unite-seat-requires-clause-some g c =
 pub unreachable-requires : goal.unreachable-requires
 unreachable-requires g c =
     let e = ends _ _ _ _ _ _ _ _ _ _ _ c.unite-seat.ensures.knows
-        (λ n low high. c.requires.passes.each n low (subst (λ (m : ℕ). n ≤ m) (ap (λ (l : LockValue g.row.V-Name.Denot). l.callers) c.self.view_is) high))
-        c.close_with-closed.ensures.values.2 c.take-value.ensures.value in
+    (λ n low high. c.requires.passes.each n low (subst (λ (m : ℕ). n ≤ m) (ap (λ (l : LockValue g.row.V-Name.Denot). l.callers) c.self.view_is) high))
+    c.close_with-closed.ensures.values.2 c.take-value.ensures.value in
     let clash : None ≡ Some e.value = sym c.in-None.is ∙ e.is in cc
 
 ended : (g : Over) (c : goal.In-Some g) → Ends g.V.Grows.items g.V.Grows.by g.V.Grows.name (g.V.Grows.name c.self.inside.table.shared.key.value.value) c.self.inside.table.shared.key.callers c.args.passes.items c.take-value.result

@@ -4,8 +4,9 @@ use Rattle.std.specs.Prelude.{slice_get, Some, None}
 use Rattle.atomic_table.specs.Seated.{TableId}
 use Rattle.turn_lock.specs.declared.view.Known.{Known}
 use Rattle.turn_lock.specs.Views.{newcomer}
-use Rattle.turn_lock.specs.Steps.{Seated, apart, older, newer}
-use Rattle.turn_lock.specs.Held.{LockId, PassValue, pass_value, Rests, IsPassOf}
+use Rattle.turn_lock.specs.Steps.{Seated, empty_handed, older, newer}
+use Rattle.turn_lock.specs.Shown.{LockId, PassValue, pass_value}
+use Rattle.turn_lock.specs.Seats.{Rests, IsPassOf}
 use Rattle.turn_lock.specs.Passes.{fresh, AreNew}
 use Rattle.turn_lock.proofs.ViewLemmas.{live_same}
 
@@ -36,16 +37,16 @@ module _ {I N : Type 0} (lock : LockId N) where
   pub dealt_all : (number callers : ℕ) (passes : List (PassValue I N)) (p : PassValue I N) → Dealt lock number passes → p ≡ fresh lock number → number ≡ callers → AreNew record { id = lock; callers = callers } (passes ++ p ∷ [])
   dealt_all number callers passes p d is last = let e = dealt_more number passes p d is in record { count = let c = e.count in omega arith; each = e.each }
 
-module _ {V I N : Type 0} (number : ℕ) (name : N) (me : Seated V I N) (is : me ≡ apart (newcomer number name)) where
+module _ {V I N : Type 0} (number : ℕ) (name : N) (me : Seated V I N) (is : me ≡ empty_handed (newcomer number name)) where
   -- the seat that stays
-  stays : (left : Seated V I N) → left ≡ (older me.0, me.1) → left ≡ apart record (let k : Known I N = newcomer number name in k) { newest = false }
+  stays : (left : Seated V I N) → left ≡ (older me.0, me.1) → left ≡ empty_handed record (let k : Known I N = newcomer number name in k) { newest = false }
   stays left e = e ∙ ap (λ (m : Seated V I N). (older m.0, m.1)) is
 
   pub stays_away : (left : Seated V I N) → left ≡ (older me.0, me.1) → Rests number left
   stays_away left e = record { known = record (let k : Known I N = newcomer number name in k) { newest = false }; numbered = refl; is = stays left e; away = refl; alone = refl }
 
   -- the seat that is new
-  pub comes : (next : Seated V I N) → next ≡ (newer me.0, []) → next ≡ apart (newcomer (number + 1) name)
+  pub comes : (next : Seated V I N) → next ≡ (newer me.0, []) → next ≡ empty_handed (newcomer (number + 1) name)
   comes next e = e ∙ ap (λ (m : Seated V I N). (let out : Seated V I N = (newer m.0, []) in out)) is
 
   pub first_pass : (left : Seated V I N) (p : PassValue I N) (table table' : TableId) → left ≡ (older me.0, me.1) → IsPassOf p table left → table ≡ table' → p ≡ fresh record { table = table'; name = name } number

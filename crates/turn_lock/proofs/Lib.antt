@@ -4,7 +4,7 @@ pub mod LineKeeps
 pub mod RuleKeeps
 pub mod StepKeeps
 pub mod SeatKeeps
-pub mod HeldLemmas
+pub mod SeatLemmas
 pub mod TurnLemmas
 pub mod Dealing
 pub mod Uniting

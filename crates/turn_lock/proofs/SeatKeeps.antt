@@ -14,7 +14,7 @@ use Rattle.turn_lock.specs.declared.view.View.TheVariants.{Live, Spent}
 use Rattle.turn_lock.specs.Views.{Knows, IsSpent, newcomer}
 use Rattle.turn_lock.specs.Line.{ticket_of}
 use Rattle.turn_lock.specs.Rule.{IsHome, IsOut, IsKept, Fits, TakesTurns}
-use Rattle.turn_lock.specs.Steps.{Seated, apart, older, newer, joined_with}
+use Rattle.turn_lock.specs.Steps.{Seated, empty_handed, older, newer, joined_with}
 use Rattle.turn_lock.proofs.LogLemmas.{items_by-none}
 use Rattle.turn_lock.proofs.ViewLemmas.{knows_set, knows_spent, knows_one, knows_not_spent, live_same, seat_below}
 use Rattle.turn_lock.proofs.RuleKeeps.{home_set, out_set}
@@ -230,9 +230,9 @@ module _ {V I N : Type 0} (items : V → List I) (by : I → ℕ) (name : V → 
         few = subst (λ (n : ℕ). (n ≤ callers) × (callers ≤ 64)) (sym many) r.few;
       }
 
-  pub may_split : (id number : ℕ) (n : N) (me : Seated V I N) → me ≡ apart (newcomer number n) → number < callers → Splits R id me.0 (older me.0) (newer me.0)
+  pub may_split : (id number : ℕ) (n : N) (me : Seated V I N) → me ≡ empty_handed (newcomer number n) → number < callers → Splits R id me.0 (older me.0) (newer me.0)
   may_split id number n me is room = subst (λ (m : Seated V I N). Splits R id m.0 (older m.0) (newer m.0)) (sym is) (splits id (newcomer number n) refl refl room)
 
-  pub may_join : (id other : ℕ) (k l : Known I N) (me him : Seated V I N) → me ≡ apart k → him ≡ apart l → k.place ≡ Away → l.place ≡ Away → Joins R id me.0 other him.0 (joined_with me.0 him.0) Spent
+  pub may_join : (id other : ℕ) (k l : Known I N) (me him : Seated V I N) → me ≡ empty_handed k → him ≡ empty_handed l → k.place ≡ Away → l.place ≡ Away → Joins R id me.0 other him.0 (joined_with me.0 him.0) Spent
   may_join id other k l me him is is' away away' =
       subst (λ (m : Seated V I N × Seated V I N). Joins R id m.0.0 other m.1.0 (joined_with m.0.0 m.1.0) Spent) (λ i. (sym is i, sym is' i)) (joins id other k l away away')

@@ -6,7 +6,8 @@ use Rattle.turn_lock.specs.declared.view.Place.TheVariants.{Away, Waiting, Insid
 use Rattle.turn_lock.specs.declared.view.Known.{Known}
 use Rattle.turn_lock.specs.Lists.{IsPrefix, items_by, GrowsBy}
 use Rattle.turn_lock.specs.Steps.{Seated, holding, at_place, seeing, MayDraw, Draws, MayLook, Enters, ComesIn, MayNote, Notes, MayPassOn, PassesOn}
-use Rattle.turn_lock.specs.Held.{LockId, PassValue, pass_value, Rests, IsPassOf, TurnValue, turn_value, Holds, IsTurnOf}
+use Rattle.turn_lock.specs.Shown.{LockId, PassValue, pass_value, TurnValue, turn_value}
+use Rattle.turn_lock.specs.Seats.{Rests, IsPassOf, Holds, IsTurnOf}
 use Rattle.turn_lock.proofs.ViewLemmas.{live_same}
 
 abbrev lock_of : {N : Type 0} → TableId → N → LockId N

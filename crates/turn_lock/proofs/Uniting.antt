@@ -5,14 +5,15 @@ use Rattle.atomic_table.specs.Seated.{TableId}
 use Rattle.turn_lock.specs.declared.view.Place.TheVariants.{Away}
 use Rattle.turn_lock.specs.declared.view.Joined.{Joined}
 use Rattle.turn_lock.specs.declared.view.Known.{Known}
-use Rattle.turn_lock.specs.Steps.{Seated, apart, joined_with}
-use Rattle.turn_lock.specs.Held.{PassValue, IsPassOf}
+use Rattle.turn_lock.specs.Steps.{Seated, empty_handed, joined_with}
+use Rattle.turn_lock.specs.Shown.{PassValue}
+use Rattle.turn_lock.specs.Seats.{IsPassOf}
 use Rattle.turn_lock.specs.Passes.{joined_of, Unites}
 
 -- the passes that are left, and then what was joined, are all
 pub record Unions {V I N : Type 0} (all left : List (PassValue I N)) (me : Seated V I N) : Type 0 where
   pub known : Known I N
-  pub is : me ≡ apart known
+  pub is : me ≡ empty_handed known
   pub away : known.place ≡ Away
   pub split : map joined_of all ≡ map joined_of left ++ (known.joined ++ record { number = known.number; seen = known.seen } ∷ [])
 

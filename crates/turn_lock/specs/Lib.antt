@@ -3,5 +3,6 @@ pub mod Views
 pub mod Line
 pub mod Rule
 pub mod Steps
-pub mod Held
+pub mod Shown
+pub mod Seats
 pub mod Passes

@@ -3,8 +3,8 @@ use Rattle.std.specs.Prelude.{◌≡◌, ℕ, ◌+◌, ◌<◌, ◌≤◌, List,
 use Rattle.turn_lock.specs.declared.view.Place.TheVariants.{Away}
 use Rattle.turn_lock.specs.declared.view.Joined.{Joined}
 use Rattle.turn_lock.specs.declared.view.Known.{Known}
-use Rattle.turn_lock.specs.Steps.{Seated, apart}
-use Rattle.turn_lock.specs.Held.{LockId, LockValue, PassValue}
+use Rattle.turn_lock.specs.Steps.{Seated, empty_handed}
+use Rattle.turn_lock.specs.Shown.{LockId, LockValue, PassValue}
 
 -- a pass that has seen nothing
 abbrev pub fresh : {I N : Type 0} → LockId N → ℕ → PassValue I N
@@ -32,6 +32,6 @@ joined_of p = record { number = p.number; seen = p.seen }
 -- the seat of the last of these passes, which the others were joined into
 pub record Unites {V I N : Type 0} (passes : List (PassValue I N)) (me : Seated V I N) : Type 0 where
   pub known : Known I N
-  pub is : me ≡ apart known
+  pub is : me ≡ empty_handed known
   pub away : known.place ≡ Away
   pub all : map joined_of passes ≡ known.joined ++ record { number = known.number; seen = known.seen } ∷ []

@@ -20,8 +20,8 @@ abbrev pub seeing : {I N : Type 0} → Known I N → List I → Known I N
 seeing k log = record k { seen = log }
 
 -- a live seat that has no slot out
-abbrev pub apart : {V I N : Type 0} → Known I N → Seated V I N
-apart k = (Live k, [])
+abbrev pub empty_handed : {V I N : Type 0} → Known I N → Seated V I N
+empty_handed k = (Live k, [])
 
 -- a live seat that has the slot out, with this in it
 abbrev pub holding : {V I N : Type 0} → Known I N → Option V → Seated V I N
@@ -31,18 +31,18 @@ module _ {V I N : Type 0} where
   -- draw: one that has no ticket
   pub record MayDraw (before : Seated V I N) : Type 0 where
     pub known : Known I N
-    pub is : before ≡ apart known
+    pub is : before ≡ empty_handed known
     pub away : known.place ≡ Away
 
   -- it waits with a ticket, which the word found is modulo 2^64
   abbrev pub Draws : Seated V I N → ℕ → Seated V I N → Type 0
-  Draws before found after = (k : Known I N) → before ≡ apart k → (t : ℕ) × (found ≡ t % 2 ^ 64) × (after ≡ apart (at_place k (Waiting t)))
+  Draws before found after = (k : Known I N) → before ≡ empty_handed k → (t : ℕ) × (found ≡ t % 2 ^ 64) × (after ≡ empty_handed (at_place k (Waiting t)))
 
   -- look: one that waits with a ticket, which this is modulo 2^64
   pub record MayLook (before : Seated V I N) (found : ℕ) : Type 0 where
     pub known : Known I N
     pub ticket : ℕ
-    pub is : before ≡ apart known
+    pub is : before ≡ empty_handed known
     pub waits : known.place ≡ Waiting ticket
     pub same : found ≡ ticket % 2 ^ 64
 
@@ -56,11 +56,11 @@ module _ {V I N : Type 0} where
       pub named : name value ≡ k.name
 
     abbrev pub ComesIn : Seated V I N → Seated V I N → Type 0
-    ComesIn before after = (k : Known I N) (t : ℕ) → before ≡ apart k → k.place ≡ Waiting t → Enters k t after
+    ComesIn before after = (k : Known I N) (t : ℕ) → before ≡ empty_handed k → k.place ≡ Waiting t → Enters k t after
 
     -- who finds its ticket comes in, and else nothing changes
     abbrev pub Looks : Seated V I N → ℕ → Seated V I N → Type 0
-    Looks before found after = (k : Known I N) (t : ℕ) → before ≡ apart k → k.place ≡ Waiting t → (found ≡ t % 2 ^ 64 → Enters k t after) × (found ≢ t % 2 ^ 64 → after ≡ before)
+    Looks before found after = (k : Known I N) (t : ℕ) → before ≡ empty_handed k → k.place ≡ Waiting t → (found ≡ t % 2 ^ 64 → Enters k t after) × (found ≢ t % 2 ^ 64 → after ≡ before)
 
   -- note: one that is in, and has out a value whose list grew by items of its number to this length
   pub record MayNote (items : V → List I) (by : I → ℕ) (before : Seated V I N) (count : ℕ) : Type 0 where
@@ -88,7 +88,7 @@ module _ {V I N : Type 0} where
 
   -- it is away, and the value is at home
   abbrev pub PassesOn : Seated V I N → Seated V I N → Type 0
-  PassesOn before after = (k : Known I N) (value : V) → before ≡ holding k (Some value) → after ≡ apart (at_place k Away)
+  PassesOn before after = (k : Known I N) (value : V) → before ≡ holding k (Some value) → after ≡ empty_handed (at_place k Away)
 
 module _ {I N : Type 0} where
   -- split: the newest seat stays as it is, but is not the newest, and a new seat has the next number

@@ -3,7 +3,7 @@ ghost use Rattle.std.specs.Prelude.{◌≡◌, ◌≢◌, ℕ, ◌^◌, ◌<◌,
 ghost use Rattle.turn_lock.specs.Lists.{IsPrefix, items_by, GrowsBy};
 ghost use Rattle.turn_lock.specs.Passes.{AreNew, AreAll, Unites};
 ghost use Rattle.turn_lock.specs.Views.{newcomer};
-ghost use Rattle.turn_lock.specs.Steps.{apart};
+ghost use Rattle.turn_lock.specs.Steps.{empty_handed};
 
 use crate::grows::Grows;
 use crate::line::{Deal, Founding, LockSeat, LockTable, LockWords, Unite};
@@ -24,7 +24,7 @@ pub struct TurnLock<V: Grows> {
 
 impl<V: Grows> Model for TurnLock<V> {
     ghost use Rattle.std.specs.Prelude.{◌≡◌, ◌<◌};
-    ghost use Rattle.turn_lock.specs.Held.{LockValue, lock_code, lock_value};
+    ghost use Rattle.turn_lock.specs.Shown.{LockValue, lock_code, lock_value};
 
     ghost Value = { LockValue V.Name };
 
@@ -125,7 +125,7 @@ fn lay<V: Grows>(
     requires empty { V.items value ≡ [] }
     ensures words { IfOk result (λ made. (made.0.shared.table_id.words ≡ 3) × (made.0.shared.table_id.slots ≡ 1)) }
     ensures key { IfOk result (λ made. made.0.shared.key ≡ founding.now) }
-    ensures seat { IfOk result (λ made. (made.1.table_id ≡ made.0.shared.table_id) × (made.1.me ≡ apart (newcomer 1 (V.name value)))) }
+    ensures seat { IfOk result (λ made. (made.1.table_id ≡ made.0.shared.table_id) × (made.1.me ≡ empty_handed (newcomer 1 (V.name value)))) }
     ensures err { IfErr result (λ v. v ≡ value) }
 {
     let mut slots = Vec::new(alloc);
@@ -157,7 +157,7 @@ fn deal<V: Grows>(
     mut passes: Vec<Pass<V>>,
 ) -> Vec<Pass<V>>
     requires words { (first.table_id ≡ words.now.table_id) × (words.now.table_id.words ≡ 3) }
-    requires first { first.me ≡ apart (newcomer 1 (V.name words.now.key.value.value)) }
+    requires first { first.me ≡ empty_handed (newcomer 1 (V.name words.now.key.value.value)) }
     requires callers { (1 ≤ callers) × (callers ≡ words.now.key.callers) }
     requires room { (passes.items ≡ []) × (callers ≤ vec_capacity passes) }
     ensures { AreNew record { id = record { table = words.now.table_id; name = V.name words.now.key.value.value }; callers = callers } result.items }

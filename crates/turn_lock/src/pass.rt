@@ -15,7 +15,8 @@ pub struct Pass<V: Grows> {
 }
 
 impl<V: Grows> Model for Pass<V> {
-    ghost use Rattle.turn_lock.specs.Held.{PassValue, pass_code, pass_value, IsAway};
+    ghost use Rattle.turn_lock.specs.Shown.{PassValue, pass_code, pass_value};
+    ghost use Rattle.turn_lock.specs.Seats.{IsAway};
     ghost use Rattle.turn_lock.specs.Views.{known_of};
 
     ghost Value = { PassValue V.Item V.Name };
@@ -28,7 +29,7 @@ impl<V: Grows> Model for Pass<V> {
 }
 
 impl<V: Grows> Pass<V> {
-    ghost use Rattle.turn_lock.specs.Held.{Rests, IsPassOf};
+    ghost use Rattle.turn_lock.specs.Seats.{Rests, IsPassOf};
 
     /// The caller's number, from 1 to the number of callers.
     pub fn number(&self) -> u64

@@ -15,7 +15,8 @@ pub struct Turn<V: Grows> {
 }
 
 impl<V: Grows> Model for Turn<V> {
-    ghost use Rattle.turn_lock.specs.Held.{TurnValue, turn_code, turn_value, IsInside};
+    ghost use Rattle.turn_lock.specs.Shown.{TurnValue, turn_code, turn_value};
+    ghost use Rattle.turn_lock.specs.Seats.{IsInside};
     ghost use Rattle.turn_lock.specs.Views.{known_of};
 
     ghost Value = { TurnValue V V.Item V.Name };
@@ -30,7 +31,8 @@ impl<V: Grows> Model for Turn<V> {
 impl<V: Grows> Turn<V> {
     ghost use Rattle.std.specs.Borrow.{Lends, sem};
     ghost use Rattle.turn_lock.specs.contracts.turn.Turn.{the_row};
-    ghost use Rattle.turn_lock.specs.Held.{Holds, IsTurnOf, with_value};
+    ghost use Rattle.turn_lock.specs.Shown.{with_value};
+    ghost use Rattle.turn_lock.specs.Seats.{Holds, IsTurnOf};
 
     // The turn of a seat that is in and has taken the value out.
     pub(crate) fn of(number: u64, seat: LockSeat<V>, value: V) -> Turn<V>

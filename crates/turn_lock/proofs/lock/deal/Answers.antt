@@ -1,5 +1,5 @@
 use Rattle.std.proofs.Common.{rules, ◌≡◌, ℕ, subst, ◌∙◌}
-use Rattle.turn_lock.specs.Held.{Rests}
+use Rattle.turn_lock.specs.Seats.{Rests}
 use Rattle.turn_lock.proofs.SeatKeeps.{may_split}
 use Rattle.turn_lock.proofs.Dealing.{dealt_more, dealt_all, stays_away, comes, first_pass, last_away, last_pass}
 use Rattle.turn_lock.proofs.lock.deal.Goals as goal

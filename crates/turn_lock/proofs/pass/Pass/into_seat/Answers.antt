@@ -1,4 +1,4 @@
-use Rattle.turn_lock.proofs.HeldLemmas.{pass_shows}
+use Rattle.turn_lock.proofs.SeatLemmas.{pass_shows}
 use Rattle.turn_lock.proofs.pass.Pass.into_seat.Goals as goal
 
 pub returns : goal.returns

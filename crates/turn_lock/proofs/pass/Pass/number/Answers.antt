@@ -1,4 +1,4 @@
-use Rattle.turn_lock.proofs.HeldLemmas.{pass_number}
+use Rattle.turn_lock.proofs.SeatLemmas.{pass_number}
 use Rattle.turn_lock.proofs.pass.Pass.number.Goals as goal
 
 pub returns : goal.returns

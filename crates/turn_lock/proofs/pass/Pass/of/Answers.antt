@@ -1,4 +1,4 @@
-use Rattle.turn_lock.proofs.HeldLemmas.{pass_made}
+use Rattle.turn_lock.proofs.SeatLemmas.{pass_made}
 use Rattle.turn_lock.proofs.pass.Pass.of.Goals as goal
 
 pub returns : goal.returns

@@ -1,4 +1,4 @@
-use Rattle.turn_lock.proofs.HeldLemmas.{turn_shows}
+use Rattle.turn_lock.proofs.SeatLemmas.{turn_shows}
 use Rattle.turn_lock.proofs.turn.Turn.into_parts.Goals as goal
 
 pub returns : goal.returns

@@ -1,4 +1,4 @@
-use Rattle.turn_lock.proofs.HeldLemmas.{turn_number}
+use Rattle.turn_lock.proofs.SeatLemmas.{turn_number}
 use Rattle.turn_lock.proofs.turn.Turn.number.Goals as goal
 
 pub returns : goal.returns

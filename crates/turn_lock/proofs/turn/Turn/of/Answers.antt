@@ -1,4 +1,4 @@
-use Rattle.turn_lock.proofs.HeldLemmas.{turn_made}
+use Rattle.turn_lock.proofs.SeatLemmas.{turn_made}
 use Rattle.turn_lock.proofs.turn.Turn.of.Goals as goal
 
 pub returns : goal.returns

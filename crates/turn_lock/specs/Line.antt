@@ -7,11 +7,13 @@ use Rattle.turn_lock.specs.declared.view.View.{View}
 use Rattle.turn_lock.specs.declared.view.View.TheVariants.{Live, Spent}
 use Rattle.turn_lock.specs.Views.{Knows}
 
+-- the ticket of one that waits or is in
 abbrev pub ticket_of : Place → Option ℕ
 ticket_of Away = None
 ticket_of (Waiting t) = Some t
 ticket_of (Inside t) = Some t
 
+-- a live seat that holds a ticket
 abbrev pub has_ticket : {I N : Type 0} → View I N → Bool
 has_ticket (Live k) = is_some (ticket_of k.place)
 has_ticket Spent = false

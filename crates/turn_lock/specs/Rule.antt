@@ -1,4 +1,4 @@
--- The rule of the lock, which holds between any two of its steps.
+-- The rule of the lock, which holds between any two of its steps. A seat is what a pass or a turn steps with, and its view is what it knows.
 use Rattle.std.specs.Prelude.{◌≡◌, ◌≢◌, ℕ, ◌+◌, ◌^◌, ◌%◌, ◌<◌, ◌≤◌, ◌⊎◌, true, List, [], ◌∷◌, length, All, Option, Some}
 use mathlib.Core.Option.{Option as Maybe, none, some}
 use Rattle.atomic_table.specs.Table.{State}
@@ -11,7 +11,7 @@ use Rattle.turn_lock.specs.Views.{Knows, IsSpent}
 use Rattle.turn_lock.specs.Line.{IsLine}
 
 module _ {V I N : Type 0} (items : V → List I) (by : I → ℕ) (name : V → N) (called : N) where
-  -- the value is at home with the lock's list and name, and no seat is in
+  -- The value is at home, with the lock's list and name, and nobody is in
   pub record IsHome (log : List I) (homes : List (Maybe (Option V))) (views : List (View I N)) : Type 0 where
     pub value : V
     pub there : homes ≡ some (Some value) ∷ []
@@ -19,7 +19,7 @@ module _ {V I N : Type 0} (items : V → List I) (by : I → ℕ) (name : V → 
     pub named : name value ≡ called
     pub empty : (seat : ℕ) (k : Known I N) (t : ℕ) → Knows views seat k → k.place ≢ Inside t
 
-  -- the value is out, and a seat is in
+  -- The value is out, and somebody is in
   pub record IsOut (homes : List (Maybe (Option V))) (views : List (View I N)) : Type 0 where
     pub seat : ℕ
     pub known : Known I N
@@ -28,7 +28,7 @@ module _ {V I N : Type 0} (items : V → List I) (by : I → ℕ) (name : V → 
     pub inside : known.place ≡ Inside ticket
     pub gone : homes ≡ none ∷ []
 
-  -- a seat that was joined into another is spent; its list is a beginning, with all items by its number
+  -- What is kept of a seat that was joined into another: it is spent, its list begins the lock's, and by its number the lock's list has just the items of its own
   pub record IsKept (log : List I) (views : List (View I N)) (j : Joined I) : Type 0 where
     pub seat : ℕ
     pub numbered : j.number ≡ seat + 1
@@ -36,8 +36,8 @@ module _ {V I N : Type 0} (items : V → List I) (by : I → ℕ) (name : V → 
     pub prefix : IsPrefix j.seen log
     pub own : items_by by j.number log ≡ items_by by j.number j.seen
 
-  -- what a live seat knows: its number and the lock's name, and a beginning of the list, with all items by its number.
-  -- Who is in has the ticket served and has seen the whole list
+  -- What a live seat knows: its number, which no other seat has, the lock's name, and a list that begins the lock's.
+  -- By its number the lock's list has just the items of its own. Who is in has the ticket served, and has seen the whole list
   pub record Fits (log : List I) (served : ℕ) (views : List (View I N)) (seat : ℕ) (k : Known I N) : Type 0 where
     pub numbered : k.number ≡ seat + 1
     pub named : k.name ≡ called
@@ -47,7 +47,8 @@ module _ {V I N : Type 0} (items : V → List I) (by : I → ℕ) (name : V → 
     pub last : k.newest ≡ true → length views ≡ seat + 1
     pub kept : All (IsKept log views) k.joined
 
-  -- The words are the ticket to be drawn next, the ticket served and the length of the list
+  -- Callers take turns: there are a list and two counts of tickets, served and drawn, of which the words tell the drawn, the served and the list's length.
+  -- Those that hold tickets stand in line, the value is at home or out with one of them, each knows what is so, and each item is by a caller's number
   pub record TakesTurns (callers : ℕ) (s : State (Option V) (View I N)) : Type 0 where
     pub log : List I
     pub served : ℕ

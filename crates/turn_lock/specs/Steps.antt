@@ -1,4 +1,5 @@
--- Each kind of step: what it asks of the seat that makes it, and what it tells it.
+-- The kinds of steps: what each asks of the seat that makes it, and what it tells it.
+-- A turn goes: draw a ticket, look until it is served, take the value out, put it back, note its length, pass on. Take and put touch the slot alone.
 use Rattle.std.specs.Prelude.{◌≡◌, ◌≢◌, ℕ, ◌+◌, ◌^◌, ◌%◌, false, List, [], ◌∷◌, length, Option, Some}
 use Rattle.atomic_table.specs.Table.{Me}
 use Rattle.turn_lock.specs.declared.view.Place.{Place}
@@ -13,9 +14,11 @@ use Rattle.turn_lock.specs.Views.{newcomer}
 abbrev pub Seated : Type 0 → Type 0 → Type 0 → Type 0
 Seated V I N = Me (Option V) (View I N)
 
+-- the same seat at another place
 abbrev pub at_place : {I N : Type 0} → Known I N → Place → Known I N
 at_place k place = record k { place = place }
 
+-- the same seat, which has seen this list
 abbrev pub seeing : {I N : Type 0} → Known I N → List I → Known I N
 seeing k log = record k { seen = log }
 

@@ -16,7 +16,8 @@ use std::marker::Model;
 use std::snapshot::Snapshot;
 use std::sync::Wait;
 
-/// A lock round one value, for a number of callers. Contracts see which lock it is, with the name of the value that it was made with, and the number of callers.
+/// A lock round one value, for 1 to 64 callers. Contracts see which lock it is, with the name of the value that it was made with, and the number of callers.
+/// Threads share it by reference. Where it is dropped, so is the value.
 #[derive(Drop)]
 pub struct TurnLock<V: Grows> {
     table: LockTable<V>,
@@ -36,7 +37,8 @@ impl<V: Grows> Model for TurnLock<V> {
 }
 
 impl<V: Grows> TurnLock<V> {
-    /// A lock round a value whose list is empty, and a pass for each of 1 to 64 callers, numbered from 1. For want of memory the value comes back.
+    /// A lock round a value whose list is empty, and a pass for each of 1 to 64 callers, numbered from 1, which has seen nothing.
+    /// For want of memory, and for nothing else, the value comes back.
     pub fn new(alloc: Global, value: V, callers: u64) -> Result<(TurnLock<V>, Vec<Pass<V>>), V>
         requires callers { (1 ≤ callers) × (callers ≤ 64) }
         requires empty { V.items value ≡ [] }
@@ -57,7 +59,8 @@ impl<V: Grows> TurnLock<V> {
         Ok((TurnLock { table }, passes))
     }
 
-    /// Takes the caller's turn, once those that came before have left. What its pass has seen begins the list found, which has no items by its number but those.
+    /// Takes the caller's turn, once all that came before have left. The value found has the lock's name. What the pass has seen begins the list found, which has no items by its number but those.
+    /// It waits, for ever where a turn before it never ends: it looks again, and lets other threads run between looks.
     pub fn enter<R: Wait>(&self, rt: &R, pass: Pass<V>) -> Turn<V>
         requires lock { pass.lock ≡ self.now.id }
         ensures lock { result.lock ≡ pass.lock }
@@ -75,7 +78,7 @@ impl<V: Grows> TurnLock<V> {
         Turn::of(number, seat, value)
     }
 
-    /// Ends a turn. The list grew by items of this caller alone, to fewer than 2^63, and the pass has then seen it.
+    /// Ends a turn, with a value of the lock's name whose list grew by items of this caller alone, or not at all, and has fewer than 2^63. The pass has then seen that list.
     pub fn leave(&self, turn: Turn<V>) -> Pass<V>
         requires lock { turn.lock ≡ self.now.id }
         requires name { V.name turn.value ≡ self.now.id.name }
@@ -94,7 +97,7 @@ impl<V: Grows> TurnLock<V> {
         Pass::of(number, seat)
     }
 
-    /// Ends the lock, with all its passes. Each pass's list begins the value's, which has no items by its number but those, and none by a number of no pass.
+    /// Ends the lock, with all its passes, and gives the value, which has the lock's name. Each pass's list begins the value's, which has no items by its number but those, and none by another number than theirs.
     pub fn close(self, passes: Vec<Pass<V>>) -> V
         requires passes { AreAll self passes.items }
         ensures name { V.name result ≡ self.id.name }

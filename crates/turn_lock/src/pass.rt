@@ -6,7 +6,8 @@ use crate::grows::Grows;
 use crate::line::LockSeat;
 use std::marker::Model;
 
-/// A caller's right to enter one lock. Contracts see which lock it is of, its number and the list that it has seen.
+/// A caller's right to enter one lock. Contracts see which lock it is of, the caller's number and the list that it has seen.
+/// Keep it: a lock is closed with all its passes.
 #[derive(Drop)]
 pub struct Pass<V: Grows> {
     number: u64,

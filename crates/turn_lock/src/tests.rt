@@ -46,16 +46,22 @@ fn add_one(turn: &mut Turn<Numbers>)
     let _ = turn.value_mut().numbers.push(number);
 }
 
-// Enters so many times, and adds the caller's number each time.
-fn add<R: Wait>(
-    rt: &R,
-    lock: &TurnLock<Numbers>,
-    mut pass: Pass<Numbers>,
-    rounds: u64,
-) -> Pass<Numbers>
+// Enters, and leaves the list as it was. It says how many numbers it found.
+fn count_in<R: Wait>(rt: &R, lock: &TurnLock<Numbers>, pass: Pass<Numbers>) -> (u64, Pass<Numbers>)
+    requires { pass.lock ≡ lock.now.id }
+    ensures { IsSameCaller pass result.1 }
+{
+    let turn = lock.enter(rt, pass);
+    let count = turn.value().count();
+    (count, lock.leave(turn))
+}
+
+// Looks once, and then enters so many times, and adds the caller's number each time.
+fn add<R: Wait>(rt: &R, lock: &TurnLock<Numbers>, pass: Pass<Numbers>, rounds: u64) -> Pass<Numbers>
     requires { pass.lock ≡ lock.now.id }
     ensures { IsSameCaller pass result }
 {
+    let (_, mut pass) = count_in(rt, lock, pass);
     for _ in 0..rounds {
         let mut turn = lock.enter(rt, pass);
         add_one(&mut turn);
@@ -160,7 +166,10 @@ fn value_comes_back_without_memory(rt: HostRuntime) -> Result<(), Fail> {
         numbers: Vec::new(rt.alloc()),
     };
     match TurnLock::new(rt.alloc(), value, 2) {
-        Ok((_lock, passes)) => assert_eq!(rt; passes.len(), 2),
+        Ok((_lock, passes)) => {
+            let numbers: Vec<u64> = passes.iter().map(|p| p.number()).collect(rt.alloc())?;
+            assert_eq!(rt; numbers.as_slice(), [1, 2].as_slice());
+        }
         Err(value) => assert_eq!(rt; value.count(), 0),
     }
     Ok(())

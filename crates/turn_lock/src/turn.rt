@@ -6,7 +6,8 @@ use crate::grows::Grows;
 use crate::line::LockSeat;
 use std::marker::Model;
 
-/// A turn in a lock, with the value. It has no `Drop`: who does not leave keeps all others out.
+/// A caller's turn in a lock, with the value. Contracts see which lock it is, the caller's number, the list that it found and the value now.
+/// It has no `Drop`, so that nobody forgets to leave: until then all others wait.
 pub struct Turn<V: Grows> {
     number: u64,
     seat: LockSeat<V>,

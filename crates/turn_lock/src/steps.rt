@@ -7,6 +7,16 @@ use crate::line::{Draw, LockSeat, LockWords, Look, Note, PassOn};
 use std::sync::Wait;
 use std::thread::yield_now;
 
+// The word of the ticket to be drawn next, of the ticket served, and of the list's length.
+const NEXT_TICKET: usize = 0;
+
+const TICKET_SERVED: usize = 1;
+
+const LIST_LENGTH: usize = 2;
+
+// The slot of the value.
+const VALUE: usize = 0;
+
 /// How often a caller looks before it lets other threads run between looks.
 const QUICK_LOOKS: u64 = 16;
 
@@ -17,7 +27,7 @@ pub fn draw<V: Grows>(words: &LockWords<V>, seat: &mut LockSeat<V>) -> u64
     ensures table { seat.new.table_id ≡ seat.old.table_id }
     ensures drawn { Draws seat.old.me result seat.new.me }
 {
-    words.fetch_add::<Draw>(seat, 0, 1)
+    words.fetch_add::<Draw>(seat, NEXT_TICKET, 1)
 }
 
 /// Looks once, and says whether the ticket is served.
@@ -27,7 +37,7 @@ fn look<V: Grows>(words: &LockWords<V>, seat: &mut LockSeat<V>, ticket: u64) -> 
     ensures table { seat.new.table_id ≡ seat.old.table_id }
     ensures inside { MatchBool result (ComesIn V.items V.by V.name seat.old.me seat.new.me) (seat.new.me ≡ seat.old.me) }
 {
-    words.load::<Look>(seat, 1) == ticket
+    words.load::<Look>(seat, TICKET_SERVED) == ticket
 }
 
 /// Looks until the ticket is served.
@@ -59,7 +69,7 @@ pub fn take<V: Grows>(words: &LockWords<V>, seat: &mut LockSeat<V>) -> V
     ensures value { seat.old.me.1 ≡ (0, Some result) ∷ [] }
     ensures left { seat.new.me ≡ (seat.old.me.0, (0, None) ∷ []) }
 {
-    match words.exchange(seat, 0, None) {
+    match words.exchange(seat, VALUE, None) {
         Some(value) => value,
         None => unreachable!(),
     }
@@ -72,7 +82,7 @@ pub fn put<V: Grows>(words: &LockWords<V>, seat: &mut LockSeat<V>, value: V)
     ensures table { seat.new.table_id ≡ seat.old.table_id }
     ensures held { seat.new.me ≡ (seat.old.me.0, (0, Some value) ∷ []) }
 {
-    let left = words.exchange(seat, 0, Some(value));
+    let left = words.exchange(seat, VALUE, Some(value));
     let None = left else { unreachable!() };
 }
 
@@ -83,7 +93,7 @@ pub fn note<V: Grows>(words: &LockWords<V>, seat: &mut LockSeat<V>, count: u64)
     ensures table { seat.new.table_id ≡ seat.old.table_id }
     ensures noted { Notes V.items seat.old.me seat.new.me }
 {
-    words.swap::<Note>(seat, 2, count);
+    words.swap::<Note>(seat, LIST_LENGTH, count);
 }
 
 /// Lets the next ticket be served.
@@ -93,5 +103,5 @@ pub fn pass_on<V: Grows>(words: &LockWords<V>, seat: &mut LockSeat<V>)
     ensures table { seat.new.table_id ≡ seat.old.table_id }
     ensures passed { PassesOn seat.old.me seat.new.me }
 {
-    words.fetch_add::<PassOn>(seat, 1, 1);
+    words.fetch_add::<PassOn>(seat, TICKET_SERVED, 1);
 }

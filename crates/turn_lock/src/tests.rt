@@ -1,8 +1,8 @@
 ghost use Rattle.std.specs.Prelude.{◌≡◌, ◌^◌, ◌<◌, ◌≤◌, length, All, vec_len, vec_capacity};
 ghost use Rattle.std.specs.List.{AllZip};
 ghost use Rattle.std.specs.Thread.{IsSync};
-ghost use Rattle.turn_lock.specs.Lists.{GrowsBy};
-ghost use Rattle.turn_lock.specs.Passes.{IsSameCaller};
+ghost use Rattle.turn_lock.specs.Lists.{GrowsBy, IsPrefix};
+ghost use Rattle.turn_lock.specs.Passes.{AreAll, IsSameCaller};
 
 use crate::{Grows, Pass, Turn, TurnLock};
 use std::alloc::Global;
@@ -99,6 +99,14 @@ fn add_all<R: Threads + Wait + Sync>(
     rest
 }
 
+// Closes the lock. The list of each pass begins the list that is left.
+fn end(lock: TurnLock<Numbers>, passes: Vec<Pass<Numbers>>) -> Numbers
+    requires { AreAll lock passes.items }
+    ensures { All (λ p. IsPrefix p.seen result.numbers.items) passes.items }
+{
+    lock.close(passes)
+}
+
 // What so many callers leave, who each enter so many times. None for want of memory.
 fn numbers_of<R: Threads + Wait + Sync>(
     rt: &R,
@@ -115,7 +123,7 @@ fn numbers_of<R: Threads + Wait + Sync>(
         return None;
     };
     let passes = add_all(rt, &lock, passes, rounds);
-    Some(lock.close(passes))
+    Some(end(lock, passes))
 }
 
 fn count_of(numbers: &[u64], number: u64) -> usize {

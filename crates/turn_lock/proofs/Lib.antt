@@ -1,0 +1,12 @@
+pub mod LogLemmas
+pub mod ViewLemmas
+pub mod LineKeeps
+pub mod RuleKeeps
+pub mod StepKeeps
+pub mod SeatKeeps
+pub mod SeatLemmas
+pub mod TurnLemmas
+pub mod Dealing
+pub mod Uniting
+pub mod Closing
+pub mod AllPasses

@@ -1,0 +1,5 @@
+pub mod Causes
+pub mod Deciding
+pub mod Marked
+pub mod Phrases
+pub mod Spaces

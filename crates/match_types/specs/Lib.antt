@@ -1,0 +1,4 @@
+pub mod Marks
+pub mod Meets
+pub mod Pattern
+pub mod Tests

@@ -1,0 +1,72 @@
+// The text of a pattern: its spaces, its marks and what stands between them.
+ghost use Rattle.std.specs.Prelude.{◌≡◌, ◌↔◌, false, IsNone, IfSome};
+ghost use Rattle.match_types.specs.Marks.{trimmed, begins_with, minus, without_minus, kind_of, inside, is_closed};
+
+use crate::kind::MatchType;
+use thiserror::Error;
+
+/// The most bytes of a pattern's text.
+pub const PATTERN_BYTES: usize = 80;
+
+/// The most words of a pattern.
+pub const PATTERN_WORDS: usize = 10;
+
+/// Why a text is no pattern, in the order in which it is judged.
+#[derive(Clone, Copy, Debug, PartialEq, Eq, Error)]
+pub enum PatternError {
+    /// The text has more than `PATTERN_BYTES` bytes, spaces at its ends among them.
+    #[error("the pattern has more than {most} bytes", most = PATTERN_BYTES)]
+    TooLong,
+    /// The text without the spaces at its ends begins with `-`.
+    #[error("the pattern begins with `-`")]
+    Minus,
+    /// It begins with `[` or `"` and has no `]` or second `"` at its end.
+    #[error("the pattern's mark is not closed")]
+    Unclosed,
+    /// It has no word.
+    #[error("the pattern has no word")]
+    NoWords,
+    /// It has more than `PATTERN_WORDS` words.
+    #[error("the pattern has more than {most} words", most = PATTERN_WORDS)]
+    TooMany,
+    /// Memory was wanted.
+    #[error("out of memory")]
+    NoMemory,
+}
+
+/// The text without the spaces at its ends.
+pub(crate) fn trim_spaces(text: &str) -> &str
+    ensures { result.now ≡ trimmed text.now }
+{
+    text.trim_start_matches(' ').trim_end_matches(' ')
+}
+
+/// Whether the text begins with `-`.
+pub(crate) fn begins_with_minus(text: &str) -> bool
+    ensures { result ≡ begins_with minus text.now }
+{
+    text.starts_with('-')
+}
+
+/// The text without one `-` at its start, if there is one.
+pub(crate) fn drop_minus(text: &str) -> &str
+    ensures { result.now ≡ without_minus text.now }
+{
+    text.strip_prefix('-').unwrap_or(text)
+}
+
+/// The kind of a text without spaces at its ends, and what stands between its marks. `None` says
+/// that a mark is not closed.
+pub(crate) fn unmarked(text: &str) -> Option<(MatchType, &str)>
+    ensures unclosed { IsNone result ↔ (is_closed text.now ≡ false) }
+    ensures kind { IfSome result (λ parts. parts.0 ≡ kind_of text.now) }
+    ensures inside { IfSome result (λ parts. parts.1.now ≡ inside text.now) }
+{
+    if let Some(rest) = text.strip_prefix('[') {
+        return Some((MatchType::Exact, rest.strip_suffix(']')?));
+    }
+    if let Some(rest) = text.strip_prefix('"') {
+        return Some((MatchType::Phrase, rest.strip_suffix('"')?));
+    }
+    Some((MatchType::Broad, text))
+}

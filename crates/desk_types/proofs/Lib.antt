@@ -1,8 +1,17 @@
 pub mod Accounts
 pub mod AdLemmas
+pub mod Budgets
+pub mod Clicks
+pub mod Costs
+pub mod EachRow
+pub mod Editions
 pub mod Entrants
+pub mod FairPages
 pub mod Members
 pub mod OrderLemmas
 pub mod Pages
 pub mod PriceLemmas
 pub mod Ranking
+pub mod Refusing
+pub mod ServedInTurn
+pub mod Sound

@@ -1,11 +1,10 @@
 -- Which lines compete for a query, clause by clause, and who enters.
-use Rattle.std.specs.Prelude.{ℕ, Bool, not, ◌==◌, ◌&&◌, nat_le, pos, int_le, List, [], map, filter}
+use Rattle.std.specs.Prelude.{ℕ, Bool, not, ◌==◌, ◌&&◌, nat_le, pos, int_le, List, map, filter}
 use Rattle.std.specs.List.{list_any}
 use Rattle.match_types.specs.Marks.{kind_of}
 use Rattle.match_types.specs.Pattern.{words_in}
 use Rattle.match_types.specs.Tests.{meets}
 use Rattle.desk_types.specs.declared.rows.Line.{Line}
-use Rattle.desk_types.specs.declared.rows.Negative.{Negative}
 use Rattle.desk_types.specs.AdValue.{AdValue, score}
 use Rattle.desk_types.specs.Day.{day_of}
 use Rattle.desk_types.specs.Money.{free}

@@ -1,5 +1,5 @@
 -- The forms of keys, headlines and links.
-use Rattle.std.specs.Prelude.{ℕ, Bool, not, ◌==◌, ◌&&◌, ◌||◌, nat_le, nat_lt, nat_eq, List, length, codes}
+use Rattle.std.specs.Prelude.{ℕ, Bool, not, ◌==◌, ◌&&◌, ◌||◌, nat_le, nat_eq, List, length, codes}
 use Rattle.std.specs.List.{list_all, starts_with}
 use Rattle.desk_types.specs.declared.limits.TheConstants.{KEY_BYTES_MIN, KEY_BYTES_MAX, HEADLINE_BYTES_MAX, LINK_BYTES_MAX}
 

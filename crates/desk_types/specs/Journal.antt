@@ -1,5 +1,5 @@
 -- Which lists of entries a journal may have, and when it is full.
-use Rattle.std.specs.Prelude.{◌≡◌, ℕ, ◌+◌, ◌-◌, ◌^◌, ◌<◌, ◌≤◌, ◌⊎◌, Bool, ◌==◌, ◌||◌, nat_lt, nat_le, List, [], ◌∷◌, filter, map, length, sum_by, count_by, All, AllPairs, ⊤}
+use Rattle.std.specs.Prelude.{◌≡◌, ℕ, ◌+◌, ◌-◌, ◌^◌, ◌<◌, ◌≤◌, ◌⊎◌, Bool, ◌==◌, ◌||◌, nat_lt, nat_le, List, filter, map, length, sum_by, count_by, All, AllPairs, ⊤}
 use Rattle.std.specs.List.{range_with_len}
 use Rattle.desk_types.specs.declared.call.Call.{Call}
 use Rattle.desk_types.specs.declared.entry.Entry.{Entry}

@@ -5,6 +5,7 @@ pub mod Fields
 pub mod Journal
 pub mod Judged
 pub mod Laws
+pub mod LedgerLaws
 pub mod Money
 pub mod Order
 pub mod Page

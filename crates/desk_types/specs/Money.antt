@@ -1,5 +1,5 @@
 -- The money of a campaign on a day: sums over all placements.
-use Rattle.std.specs.Prelude.{ℕ, ◌+◌, Bool, true, false, not, ◌==◌, ◌&&◌, nat_lt, nat_le, ℤ, pos, ◌-ℤ◌, List, Option, filter, find, sum_by, option_map, unwrap_or}
+use Rattle.std.specs.Prelude.{ℕ, ◌+◌, Bool, true, false, not, ◌==◌, ◌&&◌, nat_lt, nat_le, ℤ, pos, ◌-ℤ◌, List, filter, find, sum_by, option_map, unwrap_or}
 use Rattle.std.specs.List.{list_any}
 use Rattle.desk_types.specs.declared.rows.BudgetSet.{BudgetSet}
 use Rattle.desk_types.specs.declared.rows.Placement.{Placement}

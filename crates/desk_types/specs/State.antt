@@ -1,5 +1,5 @@
 -- The ledger's state: its settings, its moment, its edition and its rows.
-use Rattle.std.specs.Prelude.{ℕ, ◌+◌, zero, Bool, ◌==◌, ◌&&◌, List, [], Option, find, count_by}
+use Rattle.std.specs.Prelude.{ℕ, ◌==◌, ◌&&◌, List, [], Option, find, count_by}
 use Rattle.desk_types.specs.declared.rows.Account.{Account}
 use Rattle.desk_types.specs.declared.rows.Campaign.{Campaign}
 use Rattle.desk_types.specs.declared.rows.BudgetSet.{BudgetSet}

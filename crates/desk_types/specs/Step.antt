@@ -1,5 +1,5 @@
 -- One call: what it puts and what it answers.
-use Rattle.std.specs.Prelude.{ℕ, ◌+◌, min, max, Bool, true, false, not, ◌==◌, ◌&&◌, nat_lt, if◌then◌else◌, List, [], ◌∷◌, ◌++◌, length, map, Option, None, Some, option_map, unwrap_or}
+use Rattle.std.specs.Prelude.{ℕ, ◌+◌, min, max, Bool, true, false, ◌==◌, ◌&&◌, if◌then◌else◌, List, [], ◌∷◌, ◌++◌, length, map, Option, None, Some, option_map, unwrap_or}
 use Rattle.query_words.specs.Words.{words_of}
 use Rattle.match_types.specs.Pattern.{negative_text}
 use Rattle.match_types.specs.Marks.{trimmed}
@@ -10,10 +10,6 @@ use Rattle.desk_types.specs.declared.refusal.Refusal.{Refusal}
 use Rattle.desk_types.specs.declared.reply.Reply.{Reply}
 use Rattle.desk_types.specs.declared.reply.Reply.TheVariants.{Made, Done, Page, Went, Refused}
 use Rattle.desk_types.specs.declared.reply.Spot.{Spot}
-use Rattle.desk_types.specs.declared.rows.Account.{Account}
-use Rattle.desk_types.specs.declared.rows.Campaign.{Campaign}
-use Rattle.desk_types.specs.declared.rows.BudgetSet.{BudgetSet}
-use Rattle.desk_types.specs.declared.rows.Line.{Line}
 use Rattle.desk_types.specs.declared.rows.Negative.{Negative}
 use Rattle.desk_types.specs.declared.rows.Placement.{Placement}
 use Rattle.desk_types.specs.declared.rows.Fate.TheVariants.{Open, Settled}

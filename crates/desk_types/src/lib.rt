@@ -10,6 +10,7 @@ mod call;
 mod day;
 mod entry;
 pub mod laws;
+pub mod ledger_laws;
 pub mod limits;
 mod link;
 mod refusal;

@@ -6,6 +6,7 @@ pub mod Costs
 pub mod EachRow
 pub mod Editions
 pub mod Entrants
+pub mod Examples
 pub mod FairPages
 pub mod Members
 pub mod OrderLemmas

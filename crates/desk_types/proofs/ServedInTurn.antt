@@ -1,11 +1,13 @@
 -- Lists of calls that are served one after the other are served as one list.
-use Rattle.std.proofs.Common.{◌≢◌, ℕ, List, [], ◌∷◌, ◌++◌, Result, ◌∙◌, subst, append_assoc}
-use Rattle.std.proofs.lemmas.List.Elements.{All-append}
+use Rattle.std.proofs.lemmas.List.{append-nil}
+use Rattle.std.proofs.Common.{◌≢◌, ℕ, sym, List, [], ◌∷◌, ◌++◌, Result, ◌∙◌, subst, append_assoc}
+use Rattle.std.proofs.lemmas.List.Elements.{All-append, All-nil}
 use Rattle.desk_types.specs.declared.call.Call.{Call}
 use Rattle.desk_types.specs.declared.entry.Entry.{Entry}
 use Rattle.desk_types.specs.declared.entry.Fault.{Fault}
 use Rattle.desk_types.specs.declared.reply.Reply.{Reply}
-use Rattle.desk_types.specs.Serving.{AreOfOthers, Ends, Served}
+use Rattle.desk_types.specs.Journal.{IsLegal}
+use Rattle.desk_types.specs.Serving.{AreOfOthers, Ends, Serves, Served}
 use Rattle.desk_types.specs.State.{State}
 
 -- entries of others that came before a list of calls belong to it
@@ -37,3 +39,13 @@ Served-append caller opening seen between left (call ∷ calls) more (result ∷
     (h.0, h.1, Served-append caller opening h.0 between left calls more results others h.2 k)
 Served-append caller opening seen between left [] more (result ∷ results) others h k = absurd h
 Served-append caller opening seen between left (call ∷ calls) more [] others h k = absurd h
+
+-- no call and one call, as lists
+pub Served-none : (caller : ℕ) (opening : State) (seen : List Entry) → IsLegal opening.settings seen → Served caller opening seen [] [] seen
+unfolding Served
+Served-none caller opening seen legal = ([], All-nil (λ (e : Entry). e.caller ≢ caller), sym (append-nil seen), legal)
+
+pub Served-one : (caller : ℕ) (opening : State) (seen left : List Entry) (moment : ℕ) (call : Call) (result : Result Reply Fault)
+    → Serves caller opening seen moment call result left → Served caller opening seen ((moment, call) ∷ []) (result ∷ []) left
+unfolding Served
+Served-one caller opening seen left moment call result h = (left, h, Served-none caller opening left h.legal)

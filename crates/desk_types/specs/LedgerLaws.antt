@@ -22,10 +22,6 @@ pub record HaveSameRows (S T : State) : Type 0 where
 abbrev pub StaysWithinBudgets : State → Type 0
 StaysWithinBudgets S = (account campaign day : ℕ) → pos 0 ≤ℤ free S account campaign day
 
--- each line has a bid and a quality in range
-abbrev pub HasLinesInRange : State → Type 0
-HasLinesInRange S = All (λ l. IsInRange (ad_of l)) S.lines
-
 -- a page of n places for a query: one ad an account, the first places in order, each at the least price that keeps its place
 pub record IsFairPage (S : State) (query : List (List ℕ)) (n : ℕ) (ads : List AdValue) : Type 0 where
   pub different_accounts : AreOfDifferentAccounts ads

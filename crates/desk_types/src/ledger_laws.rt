@@ -1,6 +1,6 @@
 //! Laws of the ledger, in the words of the subject. Each is what its function ensures.
 
-ghost use Rattle.std.specs.Prelude.{◌≡◌, ℕ, List, ◌++◌, Result};
+ghost use Rattle.std.specs.Prelude.{◌≡◌, ℕ, List, [], ◌∷◌, ◌++◌, Result};
 ghost use Rattle.desk_types.specs.declared.call.Call.{Call};
 ghost use Rattle.desk_types.specs.declared.entry.Entry.{Entry};
 ghost use Rattle.desk_types.specs.declared.entry.Fault.{Fault};
@@ -12,7 +12,8 @@ ghost use Rattle.desk_types.specs.Step.{step, at_moment};
 ghost use Rattle.desk_types.specs.Run.{run};
 ghost use Rattle.desk_types.specs.Page.{page};
 ghost use Rattle.desk_types.specs.Eligible.{entrants_for};
-ghost use Rattle.desk_types.specs.Serving.{Served};
+ghost use Rattle.desk_types.specs.Serving.{Serves, Served};
+ghost use Rattle.desk_types.specs.Journal.{IsLegal};
 ghost use Rattle.desk_types.specs.LedgerLaws.{StaysWithinBudgets, IsFairPage, IsRepeatedClick};
 
 /// From a state without rows, whatever entries come: for every campaign and day, what is spent and
@@ -46,9 +47,12 @@ pub fn equal_editions_have_equal_catalogues()
         (run S (first ++ more)).edition ≡ (run S first).edition → catalogue (run S (first ++ more)) ≡ catalogue (run S first) }
 {}
 
-/// Lists of calls that are served one after the other are served as one list.
-pub fn lists_served_in_turn_are_served_as_one()
-    ensures { (caller : ℕ) (opening : State) (seen between left : List Entry) (calls more : List (ℕ × Call)) (results others : List (Result Reply Fault)) →
+/// Calls that are served one after the other are served as one list: no call, one call, and two lists.
+pub fn calls_served_in_turn_are_served_as_one_list()
+    ensures none { (caller : ℕ) (opening : State) (seen : List Entry) → IsLegal opening.settings seen → Served caller opening seen [] [] seen }
+    ensures one { (caller : ℕ) (opening : State) (seen left : List Entry) (moment : ℕ) (call : Call) (result : Result Reply Fault) →
+        Serves caller opening seen moment call result left → Served caller opening seen ((moment, call) ∷ []) (result ∷ []) left }
+    ensures joined { (caller : ℕ) (opening : State) (seen between left : List Entry) (calls more : List (ℕ × Call)) (results others : List (Result Reply Fault)) →
         Served caller opening seen calls results between → Served caller opening between more others left
         → Served caller opening seen (calls ++ more) (results ++ others) left }
 {}

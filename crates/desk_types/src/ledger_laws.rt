@@ -1,9 +1,10 @@
 //! Laws of the ledger, in the words of the subject. Each is what its function ensures.
 
-ghost use Rattle.std.specs.Prelude.{◌≡◌, ℕ, List, [], ◌∷◌, ◌++◌, Result};
+ghost use Rattle.std.specs.Prelude.{◌≡◌, ℕ, false, List, [], ◌∷◌, ◌++◌, All, Result};
 ghost use Rattle.desk_types.specs.declared.call.Call.{Call};
 ghost use Rattle.desk_types.specs.declared.entry.Entry.{Entry};
 ghost use Rattle.desk_types.specs.declared.entry.Fault.{Fault};
+ghost use Rattle.desk_types.specs.declared.entry.Outcome.{Outcome};
 ghost use Rattle.desk_types.specs.declared.refusal.Refusal.{Refusal};
 ghost use Rattle.desk_types.specs.declared.reply.Reply.{Reply};
 ghost use Rattle.desk_types.specs.SettingsValue.{SettingsValue};
@@ -12,8 +13,8 @@ ghost use Rattle.desk_types.specs.Step.{step, at_moment};
 ghost use Rattle.desk_types.specs.Run.{run};
 ghost use Rattle.desk_types.specs.Page.{page};
 ghost use Rattle.desk_types.specs.Eligible.{entrants_for};
-ghost use Rattle.desk_types.specs.Serving.{Serves, Served};
-ghost use Rattle.desk_types.specs.Journal.{IsLegal};
+ghost use Rattle.desk_types.specs.Serving.{Serves, Served, with_entry};
+ghost use Rattle.desk_types.specs.Journal.{IsBefore, IsLegal, IsRise, is_full};
 ghost use Rattle.desk_types.specs.LedgerLaws.{StaysWithinBudgets, IsFairPage, IsRepeatedClick};
 
 /// From a state without rows, whatever entries come: for every campaign and day, what is spent and
@@ -55,4 +56,15 @@ pub fn calls_served_in_turn_are_served_as_one_list()
     ensures joined { (caller : ℕ) (opening : State) (seen between left : List Entry) (calls more : List (ℕ × Call)) (results others : List (Result Reply Fault)) →
         Served caller opening seen calls results between → Served caller opening between more others left
         → Served caller opening seen (calls ++ more) (results ++ others) left }
+{}
+
+/// The empty list is a legal journal, and a legal journal that has room for a call is one with the
+/// entry of its answer, or of a fault whose count begins where the last one ended, or above.
+pub fn journals_stay_legal()
+    ensures empty { (settings : SettingsValue) → IsLegal settings [] }
+    ensures answered { (settings : SettingsValue) (seen : List Entry) (caller moment : ℕ) (call : Call) →
+        IsLegal settings seen → is_full settings seen call ≡ false → IsLegal settings (with_entry caller seen moment call Outcome.Answered) }
+    ensures faulted { (settings : SettingsValue) (seen : List Entry) (caller moment : ℕ) (call : Call) (before after : ℕ) →
+        IsLegal settings seen → is_full settings seen call ≡ false → IsRise before after → All (λ e. IsBefore e.outcome (Outcome.Faulted before after)) seen
+        → IsLegal settings (with_entry caller seen moment call (Outcome.Faulted before after)) }
 {}

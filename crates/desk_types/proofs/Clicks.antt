@@ -29,10 +29,10 @@ map-map f g [] same = refl
 map-map f g (x ∷ xs) same = (λ i. same x i ∷ map-map f g xs same i)
 
 -- a click that settles, and one that does not
-settles : (moment n : ℕ) (p : Placement) → (p.number == n && is_held moment p) ≡ true → clicked moment n p ≡ record p { fate = Settled moment }
+pub settles : (moment n : ℕ) (p : Placement) → (p.number == n && is_held moment p) ≡ true → clicked moment n p ≡ record p { fate = Settled moment }
 settles moment n p t = cond-true _ _ _ t
 
-leaves : (moment n : ℕ) (p : Placement) → (p.number == n && is_held moment p) ≡ false → clicked moment n p ≡ p
+pub leaves : (moment n : ℕ) (p : Placement) → (p.number == n && is_held moment p) ≡ false → clicked moment n p ≡ p
 leaves moment n p t = cond-false _ _ _ t
 
 -- a click changes the fate alone
@@ -64,11 +64,11 @@ clicked-twice first second n p low =
     ]
 
 -- a click on a placement that is there, and on one that is not
-click-known : (S : State) (moment n : ℕ) (p : Placement) → placement_of S n ≡ Some p → step S moment (Click n) ≡ accepted (at_moment S moment) (Click n)
+pub click-known : (S : State) (moment n : ℕ) (p : Placement) → placement_of S n ≡ Some p → step S moment (Click n) ≡ accepted (at_moment S moment) (Click n)
 unfolding step refusals
 click-known S moment n p is = ap (λ o. answered (at_moment S moment) (Click n) (first (when (is_none o) NoPlacement ∷ []))) is
 
-click-unknown : (S : State) (moment n : ℕ) → placement_of S n ≡ None → step S moment (Click n) ≡ record { state = at_moment S moment; reply = Refused NoPlacement }
+pub click-unknown : (S : State) (moment n : ℕ) → placement_of S n ≡ None → step S moment (Click n) ≡ record { state = at_moment S moment; reply = Refused NoPlacement }
 unfolding step refusals
 click-unknown S moment n is = ap (λ o. answered (at_moment S moment) (Click n) (first (when (is_none o) NoPlacement ∷ []))) is
 

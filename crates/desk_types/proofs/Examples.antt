@@ -1,5 +1,5 @@
 -- Worked examples of the ledger, computed.
-use Rattle.std.proofs.Common.{◌≡◌, ℕ, ◌*◌, true, false, List, [], ◌∷◌, ◌++◌, Option, None, Some, refl, map}
+use Rattle.std.proofs.Common.{◌≡◌, ℕ, List, [], ◌∷◌, ◌++◌, None, refl}
 use Rattle.std.specs.Prelude.{codes, pos}
 use lib.Utf8.{encode}
 use Rattle.std.specs.Str.{chars}
@@ -25,7 +25,7 @@ use Rattle.desk_types.specs.Page.{entrants, distinct, is_best_of_account, place,
 use Rattle.desk_types.specs.Price.{price, first_passing, is_enough, keeps_place, with_bid_of}
 use Rattle.desk_types.specs.SettingsValue.{usual}
 use Rattle.desk_types.specs.State.{State, empty}
-use Rattle.desk_types.specs.Step.{Answered, accepted, step}
+use Rattle.desk_types.specs.Step.{accepted, step}
 
 -- the replies to calls with their moments, one after another
 replies : State → List (ℕ × Call) → List Reply

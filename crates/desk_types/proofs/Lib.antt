@@ -8,6 +8,7 @@ pub mod Editions
 pub mod Entrants
 pub mod Examples
 pub mod FairPages
+pub mod LaterClicks
 pub mod Legality
 pub mod Members
 pub mod OrderLemmas

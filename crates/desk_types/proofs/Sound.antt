@@ -52,7 +52,7 @@ pub record IsSound (S : State) : Type 0 where
   pub within : (account campaign day : ℕ) → used S account campaign day ≤ budget S account campaign day
 
 -- as time passes no more is used
-sound_later : (S : State) (moment : ℕ) → IsSound S → IsSound (at_moment S moment)
+pub sound_later : (S : State) (moment : ℕ) → IsSound S → IsSound (at_moment S moment)
 unfolding budget
 sound_later S moment h = record {
   lines = h.lines;
@@ -234,17 +234,17 @@ sound_answered : (S : State) (call : Call) (judgement : Option Refusal) → IsSo
 sound_answered S call (Some refusal) h is = h
 sound_answered S call None h is = sound_accepted S call h is
 
-sound_after : (S : State) (moment : ℕ) (call : Call) (outcome : Outcome) → IsSound S → IsSound (after S moment call outcome)
+pub sound_after : (S : State) (moment : ℕ) (call : Call) (outcome : Outcome) → IsSound S → IsSound (after S moment call outcome)
 unfolding step
 sound_after S moment call Answered h = sound_answered (at_moment S moment) call (judged (at_moment S moment) call) (sound_later S moment h) refl
 sound_after S moment call (Faulted before count) h = h
 
-sound_run : (S : State) (entries : List Entry) → IsSound S → IsSound (run S entries)
+pub sound_run : (S : State) (entries : List Entry) → IsSound S → IsSound (run S entries)
 unfolding run
 sound_run S [] h = h
 sound_run S (e ∷ entries) h = sound_run (after S e.moment e.call e.outcome) entries (sound_after S e.moment e.call e.outcome h)
 
-sound_empty : (settings : SettingsValue) → IsSound (empty settings)
+pub sound_empty : (settings : SettingsValue) → IsSound (empty settings)
 unfolding budget spent escrowed
 sound_empty settings = record { lines = tt; budgets = tt; within = λ account campaign day. omega arith }
 

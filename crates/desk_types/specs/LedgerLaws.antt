@@ -1,12 +1,14 @@
 -- What holds of the ledger, in the words of the subject.
-use Rattle.std.specs.Prelude.{◌≡◌, ℕ, ◌≤ℤ◌, pos, List, All, Contains}
+use Rattle.std.specs.Prelude.{◌≡◌, ℕ, ◌≤ℤ◌, pos, List, Contains}
 use Rattle.desk_types.specs.declared.call.Call.TheVariants.{Click}
-use Rattle.desk_types.specs.AdValue.{AdValue, IsInRange}
-use Rattle.desk_types.specs.Eligible.{ad_of, entrants_for}
+use Rattle.desk_types.specs.AdValue.{AdValue}
+use Rattle.desk_types.specs.Eligible.{entrants_for}
 use Rattle.desk_types.specs.Laws.{AreFirstPlaces, IsLeastPrice}
 use Rattle.desk_types.specs.Money.{free}
 use Rattle.desk_types.specs.Page.{AreOfDifferentAccounts}
 use Rattle.desk_types.specs.Price.{price}
+use Rattle.desk_types.specs.declared.entry.Entry.{Entry}
+use Rattle.desk_types.specs.Run.{run}
 use Rattle.desk_types.specs.State.{State, catalogue}
 use Rattle.desk_types.specs.Step.{step}
 
@@ -32,3 +34,8 @@ pub record IsFairPage (S : State) (query : List (List ℕ)) (n : ℕ) (ads : Lis
 pub record IsRepeatedClick (S : State) (first second placement : ℕ) : Type 0 where
   pub rows : HaveSameRows (step S first (Click placement)).state (step (step S first (Click placement)).state second (Click placement)).state
   pub reply : (step (step S first (Click placement)).state second (Click placement)).reply ≡ (step S first (Click placement)).reply
+
+-- of a click on a placement that was clicked before, whatever entries came between: it changes no row and gives the same reply
+pub record IsLaterClick (S : State) (first : ℕ) (between : List Entry) (second placement : ℕ) : Type 0 where
+  pub rows : HaveSameRows (run (step S first (Click placement)).state between) (step (run (step S first (Click placement)).state between) second (Click placement)).state
+  pub reply : (step (run (step S first (Click placement)).state between) second (Click placement)).reply ≡ (step S first (Click placement)).reply

@@ -15,7 +15,7 @@ ghost use Rattle.desk_types.specs.Page.{page};
 ghost use Rattle.desk_types.specs.Eligible.{entrants_for};
 ghost use Rattle.desk_types.specs.Serving.{Serves, Served, with_entry};
 ghost use Rattle.desk_types.specs.Journal.{IsBefore, IsLegal, IsRise, is_full};
-ghost use Rattle.desk_types.specs.LedgerLaws.{StaysWithinBudgets, IsFairPage, IsRepeatedClick};
+ghost use Rattle.desk_types.specs.LedgerLaws.{StaysWithinBudgets, IsFairPage, IsRepeatedClick, IsLaterClick};
 
 /// From a state without rows, whatever entries come: for every campaign and day, what is spent and
 /// what is held together are at most the day's budget.
@@ -34,6 +34,13 @@ pub fn pages_are_fair()
 /// A second click on a placement changes no row and gives the reply that the first one gave.
 pub fn second_click_changes_nothing()
     ensures { (S : State) (first second placement : ℕ) → IsRepeatedClick S first second placement }
+{}
+
+/// A click on a placement that was clicked before, whatever entries came between, changes no row and
+/// gives the reply that the first one gave.
+pub fn later_click_changes_nothing()
+    ensures { (settings : SettingsValue) (before between : List Entry) (first second placement : ℕ) (link : List ℕ) →
+        let S = run (empty settings) before in (step S first (Call.Click placement)).reply ≡ Reply.Went link → IsLaterClick S first between second placement }
 {}
 
 /// A refused call changes the moment alone.

@@ -1,7 +1,7 @@
-//! The types of the subject and the definitions that every contract above cites.
-//! `better` is the order of ads: by score, then by quality, then by the smaller triple. `laws` says
-//! what this order, entrants, places, pages and prices are by their definitions.
-//! It stands on `query_words` and `match_types` for texts, words and patterns.
+//! The types of the subject, the definitions of the auction and of the ledger, and `Service`.
+//! `laws` says what order, entrants, places, pages and prices are, `ledger_laws` what holds of every
+//! history, and the contract of `Service` that each call has the ledger's answer.
+//! It stands on `query_words` and `match_types` for texts, words and patterns, and on `arrayvec` for links.
 //! Ranking, pricing, the rows of a desk and keeping them are left to the crates above.
 #![tactic(auto)]
 

@@ -1,3 +1,5 @@
+ghost use Rattle.std.specs.Prelude.{[], true};
+
 use super::*;
 use match_types::PatternError;
 use query_words::{Text, Twin};
@@ -239,5 +241,41 @@ fn days_begin_at_midnight(rt: HostRuntime) {
         (253_402_300_799, 2_932_896),
     ] {
         assert_eq!(rt; day_of(moment), day, "{moment}");
+    }
+}
+
+/// A service that has no memory for any call.
+#[derive(Drop)]
+struct Wanting;
+
+impl Service for Wanting {
+    ghost use Rattle.desk_types.specs.SettingsValue.{usual};
+    ghost use Rattle.desk_types.specs.State.{empty};
+
+    type Home = u64;
+
+    ghost home = { λ s. 0 };
+
+    ghost opening = { λ s. empty usual };
+
+    ghost seen = { λ s. [] };
+
+    ghost me = { λ s. 1 };
+
+    ghost sure = { λ s. true };
+
+    fn history_is_legal(&self) {}
+
+    fn call(&mut self, _moment: u64, _call: Call) -> Result<Reply, Fault> {
+        Err(Fault::NoMemory)
+    }
+}
+
+#[test]
+fn a_call_of_a_service_may_want_memory(rt: HostRuntime) {
+    let mut service = Wanting;
+    for placement in 1..3 {
+        let result = service.call(5, Call::Click { placement });
+        assert!(rt; matches!(result, Err(Fault::NoMemory)));
     }
 }

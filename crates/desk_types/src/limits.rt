@@ -1,4 +1,4 @@
-//! The ranges of the numbers that the desk takes.
+//! The ranges of the numbers and texts that the desk takes, and how many of each thing it holds.
 
 /// The least bid and the least reserve, in cents per click.
 pub const BID_MIN: u64 = 1;
@@ -6,14 +6,78 @@ pub const BID_MIN: u64 = 1;
 /// The greatest bid and the greatest reserve, in cents per click.
 pub const BID_MAX: u64 = 1_000_000;
 
+/// The reserve of the usual settings, in cents per click.
+pub const RESERVE_USUAL: u64 = 5;
+
 /// The least quality of a line.
 pub const QUALITY_MIN: u64 = 1;
 
 /// The greatest quality of a line.
 pub const QUALITY_MAX: u64 = 100;
 
+/// The quality of a new line.
+pub const QUALITY_NEW: u64 = 10;
+
 /// The greatest floor: the least score that an ad must have, in cents times quality.
 pub const FLOOR_MAX: u64 = 100_000_000;
 
 /// The most places of a page; the least number is one.
 pub const PLACES_MAX: u64 = 8;
+
+/// The places of a page of the usual settings.
+pub const PLACES_USUAL: u64 = 4;
+
+/// The most that a journal's number of entries may be set to; the least is one.
+pub const JOURNAL_MAX: u64 = 4_000_000;
+
+/// The entries of a journal of the usual settings.
+pub const JOURNAL_USUAL: u64 = 1_000_000;
+
+/// The most that the bytes of a journal's texts may be set to, and what the usual settings have; the
+/// least is one.
+pub const JOURNAL_BYTES_MAX: u64 = 1_000_000_000;
+
+/// The most that the number of placements may be set to; the least is one.
+pub const PLACEMENTS_MAX: u64 = 2_000_000;
+
+/// The placements of the usual settings.
+pub const PLACEMENTS_USUAL: u64 = 1_000_000;
+
+/// The least daily budget, in cents.
+pub const BUDGET_MIN: u64 = 1;
+
+/// The greatest daily budget, in cents.
+pub const BUDGET_MAX: u64 = 1_000_000_000_000;
+
+/// The greatest moment, in seconds; a greater one counts as this.
+pub const MOMENT_MAX: u64 = 253_402_300_799;
+
+/// The seconds of a day.
+pub const DAY_SECONDS: u64 = 86_400;
+
+/// How long a placement can be clicked, in seconds from the moment at which it was shown.
+pub const CLICK_WINDOW: u64 = 1_800;
+
+/// The fewest bytes of a key.
+pub const KEY_BYTES_MIN: u64 = 8;
+
+/// The most bytes of a key.
+pub const KEY_BYTES_MAX: u64 = 64;
+
+/// The most bytes of a headline; the fewest are one.
+pub const HEADLINE_BYTES_MAX: u64 = 90;
+
+/// The most bytes of a link; the fewest are one.
+pub const LINK_BYTES_MAX: usize = 512;
+
+/// The most accounts.
+pub const ACCOUNTS_MAX: u64 = 1_000;
+
+/// The most campaigns of an account.
+pub const CAMPAIGNS_MAX: u64 = 64;
+
+/// The most lines of an account.
+pub const LINES_MAX: u64 = 1_000;
+
+/// The most negatives of an account, dropped ones among them.
+pub const NEGATIVES_MAX: u64 = 500;

@@ -1,0 +1,117 @@
+-- Why a call is refused: for each call a table of its refusals in order, of which the first that holds is given.
+use Rattle.std.specs.Prelude.{ℕ, ◌+◌, Bool, false, not, ◌==◌, ◌&&◌, nat_le, nat_lt, if◌then◌else◌, List, [], ◌∷◌, length, Option, None, Some, is_none, find, option_map, bytes_eq}
+use Rattle.std.specs.List.{list_any}
+use Rattle.query_words.specs.declared.cut.TheConstants.{QUERY_BYTES, QUERY_WORDS}
+use Rattle.query_words.specs.Words.{words_of}
+use Rattle.match_types.specs.Pattern.{refusal, negative_refusal, negative_text}
+use Rattle.match_types.specs.Marks.{trimmed}
+use Rattle.match_types.specs.Tests.{is_same_pattern}
+use Rattle.desk_types.specs.declared.limits.TheConstants.{BID_MIN, BID_MAX, BUDGET_MIN, BUDGET_MAX, PLACES_MAX, ACCOUNTS_MAX, CAMPAIGNS_MAX, LINES_MAX, NEGATIVES_MAX}
+use Rattle.desk_types.specs.declared.call.Call.{Call}
+use Rattle.desk_types.specs.declared.call.Call.TheVariants.{AddAccount, AddCampaign, AddLine, AddNegative, DropNegative, Search, Click}
+use Rattle.desk_types.specs.declared.refusal.Refusal.{Refusal}
+use Rattle.desk_types.specs.declared.refusal.Refusal.TheVariants.{BadKey, NoAccount, NoCampaign, NoNegative, NoPlacement, BadField, BadPattern, LineThere, NegativeThere, AccountsFull, CampaignsFull, LinesFull, NegativesFull, PlacementsFull, QueryTooLong, QueryTooMany}
+use Rattle.desk_types.specs.declared.refusal.Field.TheVariants as field
+use Rattle.desk_types.specs.declared.rows.Line.{Line}
+use Rattle.desk_types.specs.declared.rows.Negative.{Negative}
+use Rattle.desk_types.specs.AdValue.{AdValue}
+use Rattle.desk_types.specs.Eligible.{entrants_for}
+use Rattle.desk_types.specs.Fields.{is_key, is_headline, is_link}
+use Rattle.desk_types.specs.Page.{page}
+use Rattle.desk_types.specs.State.{State, account_of, campaign_of, placement_of, campaigns_of, lines_of, negatives_of}
+
+-- the refusal, where the test holds
+abbrev pub when : Bool → Refusal → Option Refusal
+when test refused = if test then Some refused else None
+
+-- the first refusal of a table that holds
+abbrev pub first : List (Option Refusal) → Option Refusal
+first [] = None
+first (None ∷ later) = first later
+first (Some refused ∷ later) = Some refused
+
+-- whether a number is from the one to the other
+abbrev pub is_within : ℕ → ℕ → ℕ → Bool
+is_within low high n = nat_le low n && nat_le n high
+
+-- whether the key is that of the account
+abbrev pub key_fits : State → ℕ → List ℕ → Bool
+key_fits S account key = list_any (λ a. a.number == account && bytes_eq a.key key) S.accounts
+
+-- the line of the campaign with the same pattern as this text's, if there is one
+abbrev pub same_line : State → ℕ → ℕ → List ℕ → Option Line
+same_line S account campaign pattern = find (λ l. l.account == account && (l.campaign == campaign && is_same_pattern l.pattern (trimmed pattern))) S.lines
+
+-- the live negative of the campaign with the same pattern as this text's, if there is one, and the dropped one
+abbrev pub live_negative : State → ℕ → ℕ → List ℕ → Option Negative
+live_negative S account campaign pattern = find (λ n. n.account == account && (n.campaign == campaign && (n.live && is_same_pattern n.pattern (negative_text pattern)))) S.negatives
+
+abbrev pub dropped_negative : State → ℕ → ℕ → List ℕ → Option Negative
+dropped_negative S account campaign pattern = find (λ n. n.account == account && (n.campaign == campaign && (not n.live && is_same_pattern n.pattern (negative_text pattern)))) S.negatives
+
+-- whether the account has a live negative of this number
+abbrev pub has_live_negative : State → ℕ → ℕ → Bool
+has_live_negative S account negative = list_any (λ n. n.account == account && (n.number == negative && n.live)) S.negatives
+
+-- the number of places asked for, or that of the settings
+abbrev pub places_of : State → Option ℕ → ℕ
+places_of S None = S.settings.places
+places_of S (Some places) = places
+
+abbrev pub is_bad_places : Option ℕ → Bool
+is_bad_places None = false
+is_bad_places (Some places) = not (is_within 1 PLACES_MAX places)
+
+-- the ads of the page of a search
+abbrev pub page_of : State → List ℕ → Option ℕ → List AdValue
+page_of S text places = page (entrants_for S (words_of text)) (places_of S places)
+
+-- the refusals of a call, in order
+unfoldable pub refusals : State → Call → List (Option Refusal)
+refusals S (AddAccount key) =
+    when (not (is_key key)) (BadField field.Key)
+    ∷ when (nat_le ACCOUNTS_MAX (length S.accounts)) AccountsFull
+    ∷ []
+refusals S (AddCampaign account key budget) =
+    when (is_none (account_of S account)) NoAccount
+    ∷ when (not (key_fits S account key)) BadKey
+    ∷ when (not (is_within BUDGET_MIN BUDGET_MAX budget)) (BadField field.Budget)
+    ∷ when (nat_le CAMPAIGNS_MAX (campaigns_of S account)) CampaignsFull
+    ∷ []
+refusals S (AddLine account key campaign bid pattern headline link) =
+    when (is_none (account_of S account)) NoAccount
+    ∷ when (not (key_fits S account key)) BadKey
+    ∷ when (is_none (campaign_of S account campaign)) NoCampaign
+    ∷ when (not (is_within BID_MIN BID_MAX bid)) (BadField field.Bid)
+    ∷ option_map BadPattern (refusal pattern)
+    ∷ when (not (is_headline headline)) (BadField field.Headline)
+    ∷ when (not (is_link link)) (BadField field.Link)
+    ∷ option_map (λ l. LineThere l.number) (same_line S account campaign pattern)
+    ∷ when (nat_le LINES_MAX (lines_of S account)) LinesFull
+    ∷ []
+refusals S (AddNegative account key campaign pattern) =
+    when (is_none (account_of S account)) NoAccount
+    ∷ when (not (key_fits S account key)) BadKey
+    ∷ when (is_none (campaign_of S account campaign)) NoCampaign
+    ∷ option_map BadPattern (negative_refusal pattern)
+    ∷ option_map (λ n. NegativeThere n.number) (live_negative S account campaign pattern)
+    ∷ when (is_none (dropped_negative S account campaign pattern) && nat_le NEGATIVES_MAX (negatives_of S account)) NegativesFull
+    ∷ []
+refusals S (DropNegative account key negative) =
+    when (is_none (account_of S account)) NoAccount
+    ∷ when (not (key_fits S account key)) BadKey
+    ∷ when (not (has_live_negative S account negative)) NoNegative
+    ∷ []
+refusals S (Search text places) =
+    when (nat_lt QUERY_BYTES (length text)) (QueryTooLong (length text))
+    ∷ when (nat_lt QUERY_WORDS (length (words_of text))) (QueryTooMany (length (words_of text)))
+    ∷ when (is_bad_places places) (BadField field.Places)
+    ∷ when (nat_lt S.settings.placements (length S.placements + length (page_of S text places))) PlacementsFull
+    ∷ []
+refusals S (Click placement) =
+    when (is_none (placement_of S placement)) NoPlacement
+    ∷ []
+
+-- the refusal of a call, if it is refused
+abbrev pub judged : State → Call → Option Refusal
+judged S call = first (refusals S call)

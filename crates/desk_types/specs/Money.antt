@@ -1,0 +1,56 @@
+-- The money of a campaign on a day: sums over all placements.
+use Rattle.std.specs.Prelude.{ℕ, ◌+◌, Bool, true, false, not, ◌==◌, ◌&&◌, nat_lt, nat_le, ℤ, pos, ◌-ℤ◌, List, filter, find, sum_by, option_map, unwrap_or}
+use Rattle.std.specs.List.{list_any}
+use Rattle.desk_types.specs.declared.rows.BudgetSet.{BudgetSet}
+use Rattle.desk_types.specs.declared.rows.Placement.{Placement}
+use Rattle.desk_types.specs.declared.rows.Fate.{Fate}
+use Rattle.desk_types.specs.declared.rows.Fate.TheVariants.{Open, Settled, Credited}
+use Rattle.desk_types.specs.Day.{day_of}
+use Rattle.desk_types.specs.State.{State}
+
+-- whether a setting is of this campaign, and of this day or an earlier one
+abbrev pub is_set_by : ℕ → ℕ → ℕ → BudgetSet → Bool
+is_set_by account campaign day b = b.account == account && (b.campaign == campaign && nat_le (day_of b.at) day)
+
+-- whether no setting of the campaign up to the day is of a later day than this one
+abbrev pub is_latest : List BudgetSet → ℕ → ℕ → ℕ → BudgetSet → Bool
+is_latest budgets account campaign day b = not (list_any (λ other. is_set_by account campaign day other && nat_lt (day_of b.at) (day_of other.at)) budgets)
+
+-- the budget: the amount of the campaign's setting of the latest day up to this one, or 0 where it has none
+unfoldable pub budget : State → ℕ → ℕ → ℕ → ℕ
+budget S account campaign day = unwrap_or (option_map (λ b. b.amount) (find (λ b. is_set_by account campaign day b && is_latest S.budgets account campaign day b) S.budgets)) 0
+
+-- whether a placement is of this campaign and was shown on this day
+abbrev pub is_shown_on : ℕ → ℕ → ℕ → Placement → Bool
+is_shown_on account campaign day p = p.account == account && (p.campaign == campaign && day_of p.shown == day)
+
+-- whether a click was paid for: credited ones too, which go to the statement alone
+abbrev pub is_paid : Fate → Bool
+is_paid Open = false
+is_paid (Settled at) = true
+is_paid (Credited settled credited) = true
+
+abbrev pub is_open : Fate → Bool
+is_open Open = true
+is_open (Settled at) = false
+is_open (Credited settled credited) = false
+
+-- whether the price of a placement is held at this moment: it was not clicked, and the deadline is to come
+abbrev pub is_held : ℕ → Placement → Bool
+is_held moment p = is_open p.fate && nat_lt moment p.deadline
+
+-- what the paid clicks cost, of the placements of the campaign that were shown on the day
+unfoldable pub spent : State → ℕ → ℕ → ℕ → ℕ
+spent S account campaign day = sum_by (λ p. p.price) (filter (λ p. is_shown_on account campaign day p && is_paid p.fate) S.placements)
+
+-- what is held for clicks that may still come
+unfoldable pub escrowed : State → ℕ → ℕ → ℕ → ℕ
+escrowed S account campaign day = sum_by (λ p. p.price) (filter (λ p. is_shown_on account campaign day p && is_held S.moment p) S.placements)
+
+-- what is spent or held
+abbrev pub used : State → ℕ → ℕ → ℕ → ℕ
+used S account campaign day = spent S account campaign day + escrowed S account campaign day
+
+-- what is left of the budget, a number that could be negative
+abbrev pub free : State → ℕ → ℕ → ℕ → ℤ
+free S account campaign day = (pos (budget S account campaign day) -ℤ pos (spent S account campaign day)) -ℤ pos (escrowed S account campaign day)

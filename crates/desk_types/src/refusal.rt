@@ -1,0 +1,161 @@
+//! Why a call is refused.
+
+ghost use Rattle.std.specs.Prelude.{◌≡◌};
+ghost use Rattle.desk_types.specs.Refusal.{number_of, name_of, detail_of, field_name};
+
+use match_types::PatternError;
+use query_words::{NoMemory, Twin};
+
+/// Why a call is refused. Each has a number and a name, and some a detail.
+#[derive(Clone, Copy, Debug, PartialEq, Eq)]
+pub enum Refusal {
+    /// 1: the key is not the account's.
+    BadKey,
+    /// 2: there is no such account.
+    NoAccount,
+    /// 3: the account has no such campaign.
+    NoCampaign,
+    /// 5: the account has no such negative, or it was dropped.
+    NoNegative,
+    /// 6: there is no such placement.
+    NoPlacement,
+    /// 7: this field is out of its range or form.
+    BadField(Field),
+    /// 8: the text is no pattern, for this cause, which is never want of memory.
+    BadPattern(PatternError),
+    /// 9: the campaign has a line of the same pattern, of this number.
+    LineThere(u64),
+    /// 10: the campaign has a live negative of the same pattern, of this number.
+    NegativeThere(u64),
+    /// 13: there are as many accounts as there may be.
+    AccountsFull,
+    /// 14: the account has as many campaigns as it may have.
+    CampaignsFull,
+    /// 15: the account has as many lines as it may have.
+    LinesFull,
+    /// 16: the account has as many negatives as it may have.
+    NegativesFull,
+    /// 17: there would be more placements than there may be.
+    PlacementsFull,
+    /// 18: the query has this many bytes, which is too many.
+    QueryTooLong(u64),
+    /// 19: the query has this many words, which is too many.
+    QueryTooMany(u64),
+}
+
+/// A field of a call.
+#[derive(Clone, Copy, Debug, PartialEq, Eq)]
+pub enum Field {
+    /// The key of a new account: 8 to 64 visible ASCII bytes.
+    Key,
+    /// The daily budget of a campaign: 1 to 1,000,000,000,000 cents.
+    Budget,
+    /// The bid of a line: 1 to 1,000,000 cents.
+    Bid,
+    /// The headline of a line: 1 to 90 bytes without control characters of ASCII.
+    Headline,
+    /// The link of a line: 1 to 512 visible ASCII bytes that begin with `http://` or `https://`.
+    Link,
+    /// The places of a page: 1 to 8.
+    Places,
+}
+
+/// What a refusal tells beside its name.
+#[derive(Clone, Copy, Debug, PartialEq, Eq)]
+pub enum Detail {
+    /// Nothing.
+    Nothing,
+    /// The field.
+    Field(Field),
+    /// The cause for which a text is no pattern.
+    Cause(PatternError),
+    /// The number of the line or the negative that is there, or the bytes or words of the query.
+    Number(u64),
+}
+
+impl Refusal {
+    /// Its number.
+    pub fn number(&self) -> u64
+        ensures { result ≡ number_of self.now }
+    {
+        match self {
+            Refusal::BadKey => 1,
+            Refusal::NoAccount => 2,
+            Refusal::NoCampaign => 3,
+            Refusal::NoNegative => 5,
+            Refusal::NoPlacement => 6,
+            Refusal::BadField(_) => 7,
+            Refusal::BadPattern(_) => 8,
+            Refusal::LineThere(_) => 9,
+            Refusal::NegativeThere(_) => 10,
+            Refusal::AccountsFull => 13,
+            Refusal::CampaignsFull => 14,
+            Refusal::LinesFull => 15,
+            Refusal::NegativesFull => 16,
+            Refusal::PlacementsFull => 17,
+            Refusal::QueryTooLong(_) => 18,
+            Refusal::QueryTooMany(_) => 19,
+        }
+    }
+
+    /// Its name.
+    pub fn name(&self) -> &'static str
+        ensures { result.now ≡ name_of self.now }
+    {
+        match self {
+            Refusal::BadKey => "BadKey",
+            Refusal::NoAccount => "NoAccount",
+            Refusal::NoCampaign => "NoCampaign",
+            Refusal::NoNegative => "NoNegative",
+            Refusal::NoPlacement => "NoPlacement",
+            Refusal::BadField(_) => "BadField",
+            Refusal::BadPattern(_) => "BadPattern",
+            Refusal::LineThere(_) => "LineThere",
+            Refusal::NegativeThere(_) => "NegativeThere",
+            Refusal::AccountsFull => "AccountsFull",
+            Refusal::CampaignsFull => "CampaignsFull",
+            Refusal::LinesFull => "LinesFull",
+            Refusal::NegativesFull => "NegativesFull",
+            Refusal::PlacementsFull => "PlacementsFull",
+            Refusal::QueryTooLong(_) => "QueryTooLong",
+            Refusal::QueryTooMany(_) => "QueryTooMany",
+        }
+    }
+
+    /// What it tells beside its name.
+    pub fn detail(&self) -> Detail
+        ensures { result ≡ detail_of self.now }
+    {
+        match *self {
+            Refusal::BadField(field) => Detail::Field(field),
+            Refusal::BadPattern(cause) => Detail::Cause(cause),
+            Refusal::LineThere(number)
+            | Refusal::NegativeThere(number)
+            | Refusal::QueryTooLong(number)
+            | Refusal::QueryTooMany(number) => Detail::Number(number),
+            _ => Detail::Nothing,
+        }
+    }
+}
+
+impl Field {
+    /// Its name.
+    pub fn name(&self) -> &'static str
+        ensures { result.now ≡ field_name self.now }
+    {
+        match self {
+            Field::Key => "Key",
+            Field::Budget => "Budget",
+            Field::Bid => "Bid",
+            Field::Headline => "Headline",
+            Field::Link => "Link",
+            Field::Places => "Places",
+        }
+    }
+}
+
+impl Twin for Refusal {
+    fn twin(&self) -> Result<Self, NoMemory> {
+        Ok(*self)
+    }
+}

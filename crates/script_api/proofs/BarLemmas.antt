@@ -10,12 +10,12 @@ use Rattle.script_api.specs.Bar.{begins_with_bar, cut_at_bar}
 
 not_first : (s : List ℕ) → LacksTextAt (codes " | ") s 0 → begins_with_bar s ≡ false
 not_first s lacks = elim (cases_Bool (begins_with_bar s)) [
-    | inl is ↦
+  | inl is ↦
       let tells : Decides (begins_with_bar s) (take 3 s ≡ codes " | ") = bytes_eq-Decides (take 3 s) (codes " | ") in
       let front : take 3 s ≡ codes " | " = tells.0 is in
       absurd (lacks (drop 3 s) (sym (take-append-drop 3 s) ∙ ap (λ t. t ++ drop 3 s) front))
-    | inr other ↦ other
-  ]
+  | inr other ↦ other
+]
 
 pub cut-none : (s : List ℕ) → ((i : ℕ) → i ≤ length s → LacksTextAt (codes " | ") s i) → cut_at_bar s ≡ None
 unfolding cut_at_bar

@@ -39,16 +39,16 @@ of_empty (byte ∷ more) none = absurd (omega arith)
 pub fields-unspaced : (text : List ℕ) → fields (unspaced text) ≡ fields text
 fields-unspaced [] = ap fields unspaced-nil
 fields-unspaced (byte ∷ more) = elim (cases_eq byte 32) [
-    | inl is ↦ ap (λ b. fields (unspaced (b ∷ more))) is ∙ (ap fields (unspaced-space more) ∙ (fields-unspaced more ∙ (sym (fields_of_space more) ∙ ap (λ b. fields (b ∷ more)) (sym is))))
-    | inr other ↦ ap fields (unspaced-other byte more other)
-  ]
+  | inl is ↦ ap (λ b. fields (unspaced (b ∷ more))) is ∙ (ap fields (unspaced-space more) ∙ (fields-unspaced more ∙ (sym (fields_of_space more) ∙ ap (λ b. fields (b ∷ more)) (sym is))))
+  | inr other ↦ ap fields (unspaced-other byte more other)
+]
 
 unspaced-begins : (text : List ℕ) → slice_index (unspaced text) 0 ≢ 32
 unspaced-begins [] = λ e. let none : slice_index (unspaced []) 0 ≡ 0 = rw unspaced-nil refl in absurd (omega (arith, e, none))
 unspaced-begins (byte ∷ more) = elim (cases_eq byte 32) [
-    | inl is ↦ rw (is, unspaced-space more) (unspaced-begins more)
-    | inr other ↦ rw (unspaced-other byte more other) other
-  ]
+  | inl is ↦ rw (is, unspaced-space more) (unspaced-begins more)
+  | inr other ↦ rw (unspaced-other byte more other) other
+]
 
 -- where the first byte is no space, the first field goes up to the first space
 first_of_some : (text : List ℕ) → position_or_len is_space text < length text → 0 < position_or_len is_space text →

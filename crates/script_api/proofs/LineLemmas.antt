@@ -10,9 +10,9 @@ use Rattle.script_api.specs.Script.{is_skipped, told_by_text, script_line}
 
 pub tests_utf8 : (line : List ℕ) → ¬ (IsUtf8 line) → is_utf8 line ≡ false
 tests_utf8 line none = elim (cases_Bool (is_utf8 line)) [
-    | inl is ↦ absurd (none (IsUtf8-from_is_utf8 line is))
-    | inr other ↦ other
-  ]
+  | inl is ↦ absurd (none (IsUtf8-from_is_utf8 line is))
+  | inr other ↦ other
+]
 
 line_told : (line : List ℕ) → is_skipped line ≡ false → IsUtf8 line → (slice_index line 0 == 32) ≡ false → script_line line ≡ told_by_text (trimmed line)
 unfolding script_line

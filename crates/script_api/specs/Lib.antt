@@ -5,3 +5,4 @@ pub mod Command
 pub mod CallForm
 pub mod OtherForm
 pub mod Script
+pub mod ReplyLine

@@ -6,7 +6,9 @@ ghost use Rattle.script_api.specs.CallForm.{account_call as account_told, campai
 
 use crate::bar::texts_round_bar;
 use crate::command::CallWord;
-use crate::fields::{first_field, first_five, first_three, one_field, three_fields, without_spaces};
+use crate::fields::{
+    first_field, first_five, first_three, one_field, three_fields, without_spaces,
+};
 use crate::number::number;
 use desk_types::Call;
 use query_words::{NoMemory, Text};

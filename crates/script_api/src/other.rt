@@ -96,7 +96,8 @@ fn are_keyed_numbers(text: &str) -> bool
     ensures { result ≡ keyed_numbers_told (fields text.now) }
 {
     match four_fields(text) {
-        Some((account, _, first, second)) => is_number(account) && (is_number(first) && is_number(second)),
+        Some((account, _, first, second)) => is_number(account)
+            && (is_number(first) && is_number(second)),
         None => false,
     }
 }
@@ -107,7 +108,8 @@ fn is_pause(text: &str) -> bool
     ensures { result ≡ pause_told (fields text.now) }
 {
     match five_fields(text) {
-        Some((account, _, part, number, switch)) => is_number(account) && (is_part(part) && (is_number(number) && is_switch(switch))),
+        Some((account, _, part, number, switch)) => is_number(account)
+            && (is_part(part) && (is_number(number) && is_switch(switch))),
         None => false,
     }
 }

@@ -284,10 +284,16 @@ fn line_of(alloc: Global, answer: Result<Reply, Fault>) -> Result<String, AllocE
     Ok(text)
 }
 
-fn spot_of(rt: &impl Abort, alloc: Global, place: u64, price: u64) -> Result<Spot, AllocError> {
+fn spot_of(
+    rt: &impl Abort,
+    alloc: Global,
+    place: u64,
+    placement: u64,
+    price: u64,
+) -> Result<Spot, AllocError> {
     Ok(Spot {
         place,
-        placement: place + 10,
+        placement,
         account: 1,
         campaign: 2,
         line: 3,
@@ -298,7 +304,7 @@ fn spot_of(rt: &impl Abort, alloc: Global, place: u64, price: u64) -> Result<Spo
 }
 
 #[test]
-fn an_answer_has_its_line(rt: HostRuntime) -> Result<(), Fail> {
+fn a_reply_has_its_line(rt: HostRuntime) -> Result<(), Fail> {
     let alloc = rt.alloc();
     let link = LinkText::read("http://s.example/").expect(&rt, "it is a link");
     assert_eq!(rt; line_of(alloc, Ok(Reply::Made(12)))?.as_str(), "made 12\n");
@@ -307,30 +313,41 @@ fn an_answer_has_its_line(rt: HostRuntime) -> Result<(), Fail> {
         line_of(alloc, Ok(Reply::Went(link)))?.as_str(),
         "went http://s.example/\n"
     );
-    let keeper = Fault::Keeper {
-        before: 0,
-        after: 1,
-    };
-    assert_eq!(rt; line_of(alloc, Err(keeper))?.as_str(), "fault keeper\n");
-    let full = Fault::JournalFull {
-        entries: 3,
-        bytes: 4,
-    };
-    assert_eq!(rt; line_of(alloc, Err(full))?.as_str(), "fault journal\n");
-    assert_eq!(rt;
-        line_of(alloc, Err(Fault::NoMemory))?.as_str(),
-        "fault memory\n"
-    );
-    let none = Ok(Reply::Page(List::new(alloc)));
-    assert_eq!(rt; line_of(alloc, none)?.as_str(), "page 0\n");
+    Ok(())
+}
+
+#[test]
+fn a_page_has_its_line(rt: HostRuntime) -> Result<(), Fail> {
+    let alloc = rt.alloc();
     let mut spots = Vec::new(alloc);
-    spots.push(spot_of(&rt, alloc, 1, 51)?)?;
-    spots.push(spot_of(&rt, alloc, 2, 5)?)?;
+    spots.push(spot_of(&rt, alloc, 1, 11, 51)?)?;
+    spots.push(spot_of(&rt, alloc, 2, 12, 5)?)?;
     let page = Ok(Reply::Page(List::from_vec(spots)));
     assert_eq!(rt;
         line_of(alloc, page)?.as_str(),
         "page 2 | 1 1.2.3 51 #11 | 2 1.2.3 5 #12\n"
     );
+    Ok(())
+}
+
+#[test]
+fn a_fault_has_its_line(rt: HostRuntime) -> Result<(), Fail> {
+    let keeper = Fault::Keeper {
+        before: 0,
+        after: 1,
+    };
+    let full = Fault::JournalFull {
+        entries: 3,
+        bytes: 4,
+    };
+    let cases = [
+        (keeper, "fault keeper\n"),
+        (full, "fault journal\n"),
+        (Fault::NoMemory, "fault memory\n"),
+    ];
+    for (fault, line) in cases {
+        assert_eq!(rt; line_of(rt.alloc(), Err(fault))?.as_str(), line);
+    }
     Ok(())
 }
 

@@ -1,0 +1,6 @@
+pub mod NumberLemmas
+pub mod SpaceLemmas
+pub mod FieldLemmas
+pub mod BarLemmas
+pub mod FormLemmas
+pub mod LineLemmas

@@ -1,0 +1,25 @@
+-- What a line is by its bytes.
+use Rattle.std.proofs.Common.{◌≡◌, ℕ, List, Bool, true, false, inl, inr, refl, ap, subst, IfOk}
+use Rattle.std.specs.Prelude.{◌==◌, slice_index, Result}
+use Rattle.std.specs.Str.{IsUtf8, is_utf8}
+use Rattle.std.proofs.lemmas.Bool.{cases_Bool}
+use Rattle.std.proofs.lemmas.Str.{IsUtf8-from_is_utf8, is_utf8-from_IsUtf8}
+use Rattle.script_api.specs.declared.line.ScriptLine.{ScriptLine}
+use Rattle.script_api.specs.Fields.{trimmed}
+use Rattle.script_api.specs.Script.{is_skipped, told_by_text, script_line}
+
+pub tests_utf8 : (line : List ℕ) → ¬ (IsUtf8 line) → is_utf8 line ≡ false
+tests_utf8 line none = elim (cases_Bool (is_utf8 line)) [
+  | inl is ↦ absurd (none (IsUtf8-from_is_utf8 line is))
+  | inr other ↦ other
+]
+
+line_told : (line : List ℕ) → is_skipped line ≡ false → IsUtf8 line → (slice_index line 0 == 32) ≡ false → script_line line ≡ told_by_text (trimmed line)
+unfolding script_line
+line_told line spoken text begins = rw (spoken, is_utf8-from_IsUtf8 line text, begins) refl
+
+-- a line of text that is not passed over and begins with no space
+pub told-line : {E : Type 0} (line text : List ℕ) (result : Result ScriptLine E) → is_skipped line ≡ false → text ≡ line → IsUtf8 line → (slice_index text 0 == 32) ≡ false →
+    IfOk result (λ told. told ≡ told_by_text (trimmed text)) → IfOk result (λ told. told ≡ script_line line)
+told-line line text result spoken same utf8 begins told =
+    rw (line_told line spoken utf8 (rw same at begins)) (rw same at told)

@@ -1,0 +1,93 @@
+//! What a line of a script tells.
+
+ghost use Rattle.std.specs.Prelude.{◌≡◌, IfOk, Some, None};
+ghost use Rattle.script_api.specs.Fields.{fields};
+ghost use Rattle.script_api.specs.Script.{is_skipped as skips, script_line, told_by_text as text_tells, not_told as other_tells};
+
+use crate::call::call_told;
+use crate::command::{OtherWord, call_word, other_word};
+use crate::fields::{first_field, without_end_spaces};
+use crate::number::number;
+use crate::other::is_in_form;
+use desk_types::Call;
+use query_words::NoMemory;
+use std::alloc::Global;
+
+/// What a line of a script tells.
+#[derive(Debug, Drop)]
+pub enum ScriptLine {
+    /// Nothing: the line is empty or begins with `#`.
+    Skipped,
+    /// A call at a moment, in seconds.
+    Timed {
+        /// The moment.
+        moment: u64,
+        /// The call.
+        call: Call,
+    },
+    /// A line in the form of a command of which no call can be told yet.
+    NotBuilt,
+    /// The line is in no form.
+    Bad,
+}
+
+/// What a line tells: `MOMENT COMMAND` and what the command asks for. The bytes are a line without
+/// its end. `NoMemory` is want of memory for the texts of a call.
+#[tactic(auto, unfolding(crate::specs::Script::script_line), using(crate::proofs::LineLemmas::tests_utf8))]
+pub fn read_line(alloc: Global, line: &[u8]) -> Result<ScriptLine, NoMemory>
+    ensures { IfOk result (λ told. told ≡ script_line line.now) }
+{
+    if is_skipped(line) {
+        return Ok(ScriptLine::Skipped);
+    }
+    let Ok(text) = str::from_utf8(line) else {
+        return Ok(ScriptLine::Bad);
+    };
+    if text.starts_with(' ') {
+        return Ok(ScriptLine::Bad);
+    }
+    told_by_text(alloc, without_end_spaces(text))
+}
+
+/// Whether a line is passed over: it is empty or begins with `#`.
+fn is_skipped(line: &[u8]) -> bool
+    ensures { result ≡ skips line.now }
+{
+    match line {
+        [] => true,
+        [byte, ..] => *byte == b'#',
+    }
+}
+
+/// What a text without spaces at its ends tells.
+#[tactic(auto, unfolding(crate::specs::Script::told_by_text))]
+fn told_by_text(alloc: Global, text: &str) -> Result<ScriptLine, NoMemory>
+    ensures { IfOk result (λ told. told ≡ text_tells text.now) }
+{
+    let Some((moment, rest)) = first_field(text) else {
+        return Ok(ScriptLine::Bad);
+    };
+    let Some((command, rest)) = first_field(rest) else {
+        return Ok(ScriptLine::Bad);
+    };
+    let Some(moment) = number(moment) else {
+        return Ok(ScriptLine::Bad);
+    };
+    let Some(word) = call_word(command) else {
+        return Ok(not_told(other_word(command), rest));
+    };
+    match call_told(alloc, word, rest)? {
+        Some(call) => Ok(ScriptLine::Timed { moment, call }),
+        None => Ok(ScriptLine::Bad),
+    }
+}
+
+/// A line by a command of which no call can be told yet.
+fn not_told(word: Option<OtherWord>, text: &str) -> ScriptLine
+    ensures { result ≡ other_tells word text.now }
+{
+    match word {
+        Some(word) if is_in_form(word, text) => ScriptLine::NotBuilt,
+        _ => ScriptLine::Bad,
+    }
+}

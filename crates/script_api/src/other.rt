@@ -1,0 +1,115 @@
+//! The forms of the commands of which no call can be told yet.
+
+ghost use Rattle.std.specs.Prelude.{◌≡◌};
+ghost use Rattle.script_api.specs.Fields.{fields};
+ghost use Rattle.script_api.specs.OtherForm.{is_in_form as in_form, is_number as number_told, is_switch as switch_told, is_part as part_told, is_one_number as one_number_told, are_three_numbers as three_numbers_told, is_switched as switched_told, is_keyed_number as keyed_number_told, are_keyed_numbers as keyed_numbers_told, is_pause as pause_told};
+
+use crate::command::OtherWord;
+use crate::fields::{five_fields, four_fields, one_field, three_fields, two_fields};
+use crate::number::number;
+
+/// Whether the text behind a command is in the command's form.
+pub fn is_in_form(word: OtherWord, text: &str) -> bool
+    ensures { result ≡ in_form word (fields text.now) }
+{
+    match word {
+        OtherWord::Quality => are_three_numbers(text),
+        OtherWord::Suspend => is_switched(text),
+        OtherWord::Credit => is_one_number(text),
+        OtherWord::Host => is_one_number(text),
+        OtherWord::Budget => are_keyed_numbers(text),
+        OtherWord::Bid => are_keyed_numbers(text),
+        OtherWord::Pause => is_pause(text),
+        OtherWord::Report => is_keyed_number(text),
+        OtherWord::Shown => are_keyed_numbers(text),
+    }
+}
+
+/// Whether a field spells a number.
+fn is_number(field: &str) -> bool
+    ensures { result ≡ number_told field.now }
+{
+    number(field).is_some()
+}
+
+/// Whether a field is `on` or `off`.
+fn is_switch(field: &str) -> bool
+    ensures { result ≡ switch_told field.now }
+{
+    field == "on" || field == "off"
+}
+
+/// Whether a field is `campaign` or `line`.
+fn is_part(field: &str) -> bool
+    ensures { result ≡ part_told field.now }
+{
+    field == "campaign" || field == "line"
+}
+
+/// Whether a text is a number.
+#[tactic(auto, using(crate::proofs::FormLemmas::one_number_else))]
+fn is_one_number(text: &str) -> bool
+    ensures { result ≡ one_number_told (fields text.now) }
+{
+    match one_field(text) {
+        Some(number) => is_number(number),
+        None => false,
+    }
+}
+
+/// Whether a text is three numbers.
+#[tactic(auto, using(crate::proofs::FormLemmas::three_numbers_else))]
+fn are_three_numbers(text: &str) -> bool
+    ensures { result ≡ three_numbers_told (fields text.now) }
+{
+    match three_fields(text) {
+        Some((first, second, third)) => is_number(first) && (is_number(second) && is_number(third)),
+        None => false,
+    }
+}
+
+/// Whether a text is a number and a switch.
+#[tactic(auto, using(crate::proofs::FormLemmas::switched_else))]
+fn is_switched(text: &str) -> bool
+    ensures { result ≡ switched_told (fields text.now) }
+{
+    match two_fields(text) {
+        Some((account, switch)) => is_number(account) && is_switch(switch),
+        None => false,
+    }
+}
+
+/// Whether a text is a number, a key and a number.
+#[tactic(auto, using(crate::proofs::FormLemmas::keyed_number_else))]
+fn is_keyed_number(text: &str) -> bool
+    ensures { result ≡ keyed_number_told (fields text.now) }
+{
+    match three_fields(text) {
+        Some((account, _, number)) => is_number(account) && is_number(number),
+        None => false,
+    }
+}
+
+/// Whether a text is a number, a key and two numbers.
+#[tactic(auto, using(crate::proofs::FormLemmas::keyed_numbers_else))]
+fn are_keyed_numbers(text: &str) -> bool
+    ensures { result ≡ keyed_numbers_told (fields text.now) }
+{
+    match four_fields(text) {
+        Some((account, _, first, second)) => is_number(account)
+            && (is_number(first) && is_number(second)),
+        None => false,
+    }
+}
+
+/// Whether a text is a number, a key, a part of an account with its number, and a switch.
+#[tactic(auto, using(crate::proofs::FormLemmas::pause_else))]
+fn is_pause(text: &str) -> bool
+    ensures { result ≡ pause_told (fields text.now) }
+{
+    match five_fields(text) {
+        Some((account, _, part, number, switch)) => is_number(account)
+            && (is_part(part) && (is_number(number) && is_switch(switch))),
+        None => false,
+    }
+}

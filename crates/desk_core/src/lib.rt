@@ -1,0 +1,8 @@
+//! The desk: one ledger, asked one call after another, and the journal of its calls.
+#![tactic(auto)]
+
+mod ledger;
+mod stop;
+
+pub use ledger::Ledger;
+pub use stop::Stop;

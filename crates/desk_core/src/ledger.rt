@@ -1,10 +1,19 @@
 //! The rows of a desk, its moment and its edition.
 
-ghost use Rattle.std.specs.Prelude.{◌≡◌};
+ghost use Rattle.std.specs.Prelude.{◌≡◌, ◌<◌, ◌-◌, ◌^◌, ℕ, IfErr, IfOk, IsOk, OnErr, OnOk};
+ghost use Rattle.desk_types.specs.declared.call.Call.{Call};
+ghost use Rattle.desk_types.specs.Judged.{judged};
 ghost use Rattle.desk_types.specs.State.{empty};
+ghost use Rattle.desk_types.specs.Step.{answered, step};
+ghost use Rattle.desk_core.specs.Ends.{IsAccepted, IsStop};
+ghost use Rattle.desk_core.specs.Sound.{IsSound};
 
-use desk_types::{Account, BudgetSet, Campaign, Line, Negative, Placement, Settings};
-use std::alloc::Global;
+use crate::stop::Stop;
+use desk_types::limits::MOMENT_MAX;
+use desk_types::{
+    Account, BudgetSet, Call, Campaign, Line, Negative, Placement, Reply, Settings,
+};
+use std::alloc::{AllocError, Global};
 use std::marker::Model;
 
 /// The rows of a desk, its settings, its moment and its edition. Contracts see it as the ledger's
@@ -46,5 +55,55 @@ impl Ledger {
             negatives: Vec::new(alloc),
             placements: Vec::new(alloc),
         }
+    }
+
+    /// Answers a call made at a moment, as the ledger does. A click wants no memory.
+    pub fn step(&mut self, moment: u64, call: &Call) -> Result<Reply, AllocError>
+        requires sound { IsSound self.old }
+        requires edition { self.old.edition < 2 ^ 64 - 1 }
+        ensures state { OnOk result (self.new ≡ (step self.old moment call.now).state) }
+        ensures reply { IfOk result (λ reply. reply ≡ (step self.old moment call.now).reply) }
+        ensures same { OnErr result (self.new ≡ self.old) }
+        ensures click { (placement : ℕ) → call.now ≡ Call.Click placement → IsOk result }
+    {
+        let before = self.moment;
+        self.moment = before.max(moment.min(MOMENT_MAX));
+        match self.answer(call) {
+            Ok(reply) => Ok(reply),
+            Err(_) => {
+                self.moment = before;
+                Err(AllocError)
+            }
+        }
+    }
+
+    /// Answers a call at the moment that the rows have.
+    fn answer(&mut self, call: &Call) -> Result<Reply, AllocError>
+        requires sound { IsSound self.old }
+        requires edition { self.old.edition < 2 ^ 64 - 1 }
+        ensures state { OnOk result (self.new ≡ (answered self.old call.now (judged self.old call.now)).state) }
+        ensures reply { IfOk result (λ reply. reply ≡ (answered self.old call.now (judged self.old call.now)).reply) }
+        ensures same { OnErr result (self.new ≡ self.old) }
+        ensures click { (placement : ℕ) → call.now ≡ Call.Click placement → IsOk result }
+    {
+        if let Call::Click { placement } = call {
+            return Ok(self.click(*placement));
+        }
+        match self.accept(call) {
+            Ok(reply) => Ok(reply),
+            Err(Stop::Refused(refusal)) => Ok(Reply::Refused(refusal)),
+            Err(Stop::NoMemory) => Err(AllocError),
+        }
+    }
+
+    /// Puts what an accepted call puts, and replies. A click is not asked for here.
+    fn accept(&mut self, call: &Call) -> Result<Reply, Stop>
+        requires sound { IsSound self.old }
+        requires edition { self.old.edition < 2 ^ 64 - 1 }
+        ensures accepted { IfOk result (IsAccepted self.old call.now self.new) }
+        ensures stopped { IfErr result (IsStop self.old call.now) }
+        ensures same { OnErr result (self.new ≡ self.old) }
+    {
+        Err(Stop::NoMemory)
     }
 }

@@ -1,8 +1,13 @@
 //! The desk: one ledger, asked one call after another, and the journal of its calls.
 #![tactic(auto)]
 
+mod click;
+mod desk;
+mod journal;
 mod ledger;
+mod lookup;
+mod solo;
 mod stop;
 
-pub use ledger::Ledger;
-pub use stop::Stop;
+pub use desk::Desk;
+pub use solo::Solo;

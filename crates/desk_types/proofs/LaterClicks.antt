@@ -45,7 +45,7 @@ find-longer p (z ∷ xs) ys x h =
       | inr t ↦ cond-false (p z) _ _ t ∙ find-longer p xs ys x (sym (cond-false (p z) _ _ t) ∙ h)
     ]
 
-find-is_some : {A : Type 0} (p : A → Bool) (xs ys : List A) → is_some (find p xs) ≡ true → is_some (find p (xs ++ ys)) ≡ true
+pub find-is_some : {A : Type 0} (p : A → Bool) (xs ys : List A) → is_some (find p xs) ≡ true → is_some (find p (xs ++ ys)) ≡ true
 find-is_some p [] ys h = absurd cc
 find-is_some p (z ∷ xs) ys h =
     elim (cases_Bool (p z)) [
@@ -58,12 +58,12 @@ some_of None h = absurd cc
 some_of (Some x) h = (x, refl)
 
 -- the placements are numbered up to their count, and the line of each is there
-record IsKept (S : State) : Type 0 where
-  numbers : Each (λ p. p.number ≤ length S.placements) S.placements
-  lines : Each (λ p. is_some (line_of S p.account p.line) ≡ true) S.placements
+pub record IsKept (S : State) : Type 0 where
+  pub numbers : Each (λ p. p.number ≤ length S.placements) S.placements
+  pub lines : Each (λ p. is_some (line_of S p.account p.line) ≡ true) S.placements
 
 -- an ad that competes is a line that is there
-line_there : (S : State) (query : List (List ℕ)) (ls : List Line) (a : AdValue) → Has (map ad_of (filter (is_eligible S query) ls)) a → is_some (find (λ (l : Line). l.account == a.account && l.number == a.line) ls) ≡ true
+pub line_there : (S : State) (query : List (List ℕ)) (ls : List Line) (a : AdValue) → Has (map ad_of (filter (is_eligible S query) ls)) a → is_some (find (λ (l : Line). l.account == a.account && l.number == a.line) ls) ≡ true
 line_there S query [] a h = absurd (elim h [ ])
 line_there S query (l ∷ ls) a h =
     elim (cases_Bool (l.account == a.account && l.number == a.line)) [
@@ -157,7 +157,7 @@ unfolding step
 kept_after S moment call Answered sound h = kept_answered (at_moment S moment) call (judged (at_moment S moment) call) (sound_later S moment sound) (record { numbers = h.numbers; lines = h.lines })
 kept_after S moment call (Faulted before count) sound h = h
 
-kept_run : (S : State) (entries : List Entry) → IsSound S → IsKept S → IsKept (run S entries)
+pub kept_run : (S : State) (entries : List Entry) → IsSound S → IsKept S → IsKept (run S entries)
 unfolding run
 kept_run S [] sound h = h
 kept_run S (e ∷ entries) sound h = kept_run (after S e.moment e.call e.outcome) entries (sound_after S e.moment e.call e.outcome sound) (kept_after S e.moment e.call e.outcome sound h)

@@ -17,7 +17,7 @@ use Rattle.desk_types.specs.Serving.{with_entry}
 use Rattle.desk_types.specs.SettingsValue.{SettingsValue}
 use Rattle.desk_types.specs.Weight.{weight}
 
-range-more : (a n : ℕ) → range_with_len a (n + 1) ≡ range_with_len a n ++ (a + n) ∷ []
+pub range-more : (a n : ℕ) → range_with_len a (n + 1) ≡ range_with_len a n ++ (a + n) ∷ []
 range-more a zero = let e : a ≡ a + 0 = omega arith in ap (λ m. m ∷ []) e
 range-more a (suc n) =
     let e : suc n + 1 ≡ suc (n + 1) = omega arith in
@@ -25,15 +25,15 @@ range-more a (suc n) =
     ap (range_with_len a) e ∙ ap (λ l. a ∷ l) (range-more (a + 1) n) ∙ ap (λ m. a ∷ (range_with_len (a + 1) n ++ m ∷ [])) last
 
 -- the numbers of a caller's entries
-abbrev numbers : ℕ → List Entry → List ℕ
+abbrev pub numbers : ℕ → List Entry → List ℕ
 numbers caller entries = map (λ e. e.number) (filter (λ e. e.caller == caller) entries)
 
-numbers-push : (caller : ℕ) (seen : List Entry) (e : Entry) → numbers caller (seen ++ e ∷ []) ≡ numbers caller seen ++ numbers caller (e ∷ [])
+pub numbers-push : (caller : ℕ) (seen : List Entry) (e : Entry) → numbers caller (seen ++ e ∷ []) ≡ numbers caller seen ++ numbers caller (e ∷ [])
 numbers-push caller seen e =
     ap (map (λ (x : Entry). x.number)) (filter-append (λ (x : Entry). x.caller == caller) seen (e ∷ []))
     ∙ map-append (λ (x : Entry). x.number) (filter (λ (x : Entry). x.caller == caller) seen) (filter (λ (x : Entry). x.caller == caller) (e ∷ []))
 
-entries-push : (caller : ℕ) (seen : List Entry) (e : Entry) → entries_of caller (seen ++ e ∷ []) ≡ entries_of caller seen + cond (e.caller == caller) 1 0
+pub entries-push : (caller : ℕ) (seen : List Entry) (e : Entry) → entries_of caller (seen ++ e ∷ []) ≡ entries_of caller seen + cond (e.caller == caller) 1 0
 entries-push caller seen e = sum_by_push (λ (x : Entry). cond (x.caller == caller) 1 0) seen e
 
 numbered : (caller : ℕ) (seen : List Entry) (e : Entry) → e.number ≡ entries_of e.caller seen + 1 → numbers caller seen ≡ range_with_len 1 (entries_of caller seen)
@@ -65,7 +65,7 @@ room_up_to : (n most : ℕ) → nat_lt most n ≡ false → n ≤ most
 room_up_to n most h = grind (arith, nat_tests)
 
 -- there is room for the call
-has_room : (settings : SettingsValue) (seen : List Entry) (call : Call) → is_full settings seen call ≡ false → (length seen + 1 ≤ settings.journal) × (bytes_of seen + weight call ≤ settings.journal_bytes)
+pub has_room : (settings : SettingsValue) (seen : List Entry) (call : Call) → is_full settings seen call ≡ false → (length seen + 1 ≤ settings.journal) × (bytes_of seen + weight call ≤ settings.journal_bytes)
 unfolding is_full
 has_room settings seen call h =
     let parts = or_parts (nat_le settings.journal (length seen)) (nat_lt settings.journal_bytes (bytes_of seen + weight call)) h in

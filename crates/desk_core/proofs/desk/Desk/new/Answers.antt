@@ -1,0 +1,12 @@
+use Rattle.std.proofs.Common.{◌≡◌, [], refl, sym, subst, ◌∙◌, ap}
+use Rattle.std.proofs.lemmas.List.Elements.{All-nil}
+use Rattle.desk_types.specs.declared.entry.Entry.{Entry}
+use Rattle.desk_types.specs.declared.entry.Outcome.TheVariants.{Answered}
+use Rattle.desk_types.specs.Run.{run}
+use Rattle.desk_types.specs.State.{empty}
+use Rattle.desk_types.proofs.Legality.{legal_empty}
+use Rattle.desk_core.proofs.Desks.{reached_first}
+use Rattle.desk_core.proofs.desk.Desk.new.Goals as goal
+
+pub invariant_of-result : goal.invariant_of-result
+invariant_of-result c = reached_first c.args.settings c.new.result c.new-2.result c.new.ensures c.new-2.ensures.settings c.new-2.ensures.entries

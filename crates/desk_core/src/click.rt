@@ -1,0 +1,82 @@
+//! A click.
+
+ghost use Rattle.std.specs.Prelude.{◌≡◌, ℕ, List, map, is_some, IsTrue, IsSome, IfSome, ◌↔◌};
+ghost use Rattle.std.specs.Option.{option_copied};
+ghost use Rattle.desk_types.specs.Judged.{judged};
+ghost use Rattle.desk_types.specs.Money.{is_held};
+ghost use Rattle.desk_types.specs.State.{placement_of};
+ghost use Rattle.desk_types.specs.Step.{answered, clicked, link_clicked};
+ghost use Rattle.desk_core.specs.Sound.{IsSound};
+
+use crate::ledger::Ledger;
+use desk_types::{Call, Fate, LinkText, Placement, Refusal, Reply};
+
+impl Ledger {
+    /// Answers a click on the placement of this number: it settles where the price was held, and
+    /// goes to the line's link in either case. It takes no memory.
+    #[tactic(auto, unfolding(desk_types::specs::Judged::refusals, desk_types::specs::Step::accepted))]
+    pub(crate) fn click(&mut self, placement: u64) -> Reply
+        requires sound { IsSound self.old }
+        ensures state { self.new ≡ (answered self.old (Call.Click placement) (judged self.old (Call.Click placement))).state }
+        ensures reply { result ≡ (answered self.old (Call.Click placement) (judged self.old (Call.Click placement))).reply }
+    {
+        let Some(link) = self.link_clicked(placement) else {
+            return Reply::Refused(Refusal::NoPlacement);
+        };
+        let moment = self.moment;
+        settle(&mut self.placements, moment, placement);
+        Reply::Went(link)
+    }
+
+    /// The link of a placement's line, where there is such a placement.
+    fn link_clicked(&self, placement: u64) -> Option<LinkText>
+        requires sound { IsSound self.now }
+        ensures known { IsSome result ↔ IsTrue (is_some (placement_of self.now placement)) }
+        ensures link { IfSome result (λ link. link ≡ link_clicked self.now placement) }
+    {
+        let found = self.placement_of(placement)?;
+        let Some(line) = self.line_of(found.account, found.line) else {
+            unreachable!()
+        };
+        LinkText::read(line.link.as_str())
+    }
+
+    /// The placement of this number, if there is one.
+    fn placement_of(&self, placement: u64) -> Option<&Placement>
+        ensures { option_copied result ≡ placement_of self.now placement }
+    {
+        self.placements.iter().find(|p| p.number == placement)
+    }
+}
+
+/// Settles the placement of this number, where its price is held at the moment.
+fn settle(placements: &mut [Placement], moment: u64, placement: u64)
+    ensures { placements.new ≡ map (clicked moment placement) placements.old }
+{
+    for index in 0..placements.len() {
+        placements[index] = clicked(moment, placement, placements[index]);
+    }
+}
+
+/// A placement after a click on the one of this number.
+fn clicked(moment: u64, placement: u64, row: Placement) -> Placement
+    ensures { result ≡ clicked moment placement row }
+{
+    if row.number == placement && is_held(moment, &row) {
+        return Placement {
+            fate: Fate::Settled(moment),
+            ..row
+        };
+    }
+    row
+}
+
+/// Whether the price of a placement is held at this moment.
+pub(crate) fn is_held(moment: u64, row: &Placement) -> bool
+    ensures { result ≡ is_held moment row.now }
+{
+    match row.fate {
+        Fate::Open => moment < row.deadline,
+        Fate::Settled(_) | Fate::Credited(_, _) => false,
+    }
+}

@@ -1,0 +1,71 @@
+//! A desk that serves one caller.
+
+ghost use Rattle.std.specs.Prelude.{◌≡◌};
+ghost use Rattle.desk_core.specs.SoloValue.{AreOwn};
+
+use crate::desk::Desk;
+use desk_types::{Call, Fault, Reply, Service, Settings};
+use std::marker::Model;
+
+/// A desk that serves one caller. Contracts see it as the desk and the caller's number; each entry of
+/// the desk's journal is the caller's.
+#[derive(Drop)]
+pub struct Solo {
+    desk: Desk,
+    caller: u64,
+}
+
+impl Model for Solo {
+    ghost use Rattle.desk_core.specs.SoloValue.{SoloValue, AreOwn};
+
+    ghost Value = { SoloValue };
+
+    ghost view = { λ s. record { desk = s.desk; caller = s.caller } };
+
+    ghost invariant = { λ s. AreOwn s.caller s.desk.log };
+}
+
+impl Solo {
+    /// A service of this caller over a desk whose journal has no entries of others.
+    pub fn new(desk: Desk, caller: u64) -> Solo
+        requires own { AreOwn caller desk.log }
+        ensures desk { result.desk ≡ desk }
+        ensures caller { result.caller ≡ caller }
+    {
+        Solo { desk, caller }
+    }
+
+    /// The desk as it stands. Each entry of its journal is the caller's.
+    pub fn end(self) -> Desk
+        ensures desk { result ≡ self.desk }
+        ensures own { AreOwn self.caller result.log }
+    {
+        let Solo { desk, caller: _ } = self;
+        desk
+    }
+}
+
+impl Service for Solo {
+    ghost use Rattle.std.specs.Prelude.{true};
+    ghost use Rattle.desk_core.specs.DeskValue.{opening};
+
+    type Home = Settings;
+
+    ghost home = { λ s. s.desk.settings };
+
+    ghost opening = { λ s. opening s.desk };
+
+    ghost seen = { λ s. s.desk.log };
+
+    ghost me = { λ s. s.caller };
+
+    ghost sure = { λ s. true };
+
+    fn history_is_legal(&self) {
+        let _log = self.desk.log();
+    }
+
+    fn call(&mut self, moment: u64, call: Call) -> Result<Reply, Fault> {
+        self.desk.call(self.caller, moment, call)
+    }
+}

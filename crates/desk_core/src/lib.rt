@@ -2,6 +2,7 @@
 #![tactic(auto)]
 
 mod ledger;
+mod money;
 mod stop;
 
 pub use ledger::Ledger;

@@ -1,6 +1,7 @@
 //! The desk: one ledger, asked one call after another, and the journal of its calls.
 #![tactic(auto)]
 
+mod eligible;
 mod ledger;
 mod money;
 mod stop;

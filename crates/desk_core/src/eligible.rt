@@ -31,13 +31,13 @@ impl Ledger {
         requires { IsInRange (ad_of line.now) }
         ensures { result ≡ is_eligible self.now query.now line.now }
     {
-        self.has_active_account(line)
-            && self.has_active_campaign(line)
-            && line.on
+        line.on
             && is_matched(&line.pattern, query)
-            && !self.is_kept_out(query, line)
             && self.meets_reserve(line)
             && self.meets_floor(line)
+            && self.has_active_account(line)
+            && self.has_active_campaign(line)
+            && !self.is_kept_out(query, line)
             && self.can_pay(line)
     }
 

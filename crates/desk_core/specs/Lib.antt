@@ -1,3 +1,4 @@
 pub mod Charges
 pub mod Ends
+pub mod Shown
 pub mod Sound

@@ -3,7 +3,9 @@
 
 mod eligible;
 mod ledger;
+mod lookup;
 mod money;
+mod showing;
 mod stop;
 
 pub use ledger::Ledger;

@@ -1,2 +1,4 @@
 pub mod Charges
+pub mod Pages
 pub mod Placing
+pub mod Searching

@@ -5,6 +5,7 @@ mod eligible;
 mod ledger;
 mod lookup;
 mod money;
+mod search;
 mod showing;
 mod stop;
 

@@ -1,5 +1,5 @@
 -- What is spent or held is the sum of the prices that count.
-use Rattle.std.proofs.Common.{◌≡◌, ℕ, ◌+◌, ◌≤◌, Bool, true, false, ◌&&◌, ◌||◌, cond, inl, inr, List, [], ◌∷◌, refl, sym, ap, ◌∙◌, arith}
+use Rattle.std.proofs.Common.{◌≡◌, ℕ, ◌+◌, Bool, true, false, ◌&&◌, ◌||◌, cond, inl, inr, List, [], ◌∷◌, refl, sym, ap, ◌∙◌, arith}
 use Rattle.std.specs.Prelude.{nat_lt}
 use Rattle.std.specs.List.{filter, sum_by}
 use Rattle.std.proofs.lemmas.Bool.{cases_Bool, cond-true, cond-false}
@@ -7,7 +7,7 @@ use Rattle.std.proofs.lemmas.List.Sums.{sum_by-cons}
 use Rattle.desk_types.specs.declared.rows.Fate.{Fate}
 use Rattle.desk_types.specs.declared.rows.Fate.TheVariants.{Open, Settled, Credited}
 use Rattle.desk_types.specs.declared.rows.Placement.{Placement}
-use Rattle.desk_types.specs.Money.{escrowed, is_held, is_open, is_paid, is_shown_on, spent, used}
+use Rattle.desk_types.specs.Money.{is_open, is_paid, is_shown_on, used}
 use Rattle.desk_types.specs.State.{State}
 use Rattle.desk_types.proofs.Costs.{cost, used-costs}
 use Rattle.desk_core.specs.Charges.{is_charged}

@@ -1,17 +1,20 @@
 -- The page of a sound desk can be priced and placed, and its lines are there.
-use Rattle.std.proofs.Common.{◌≡◌, ℕ, zero, suc, ◌+◌, ◌<◌, Bool, true, false, ◌==◌, ◌&&◌, inl, inr, List, [], ◌∷◌, Option, None, Some, find, is_some, map, filter, length, get_or, refl, sym, ap, subst, ◌∙◌, arith}
+use Rattle.std.proofs.Common.{◌≡◌, ℕ, zero, suc, ◌+◌, ◌<◌, Bool, true, ◌==◌, ◌&&◌, inl, inr, List, [], ◌∷◌, Option, None, Some, find, is_some, map, filter, length, get_or, refl, sym, ap, subst, ◌∙◌, arith}
 use Rattle.std.specs.List.{All, Contains, slice_get}
 use Rattle.std.specs.Option.{IfSome}
 use Rattle.std.proofs.lemmas.Bool.{cases_Bool, cond-true, cond-false, and_from, eq-eqb}
 use Rattle.std.proofs.lemmas.List.{length-map}
-use Rattle.std.proofs.lemmas.List.Elements.{All-nil, All-cons, All-head, All-tail, All-map, Contains-get_or}
+use Rattle.std.proofs.lemmas.List.Elements.{All-nil, All-cons, All-head, All-tail, All-append, All-map, Contains-get_or}
+use Rattle.query_words.specs.Words.{words_of}
+use Rattle.desk_types.specs.declared.call.Call.TheVariants.{Search}
 use Rattle.desk_types.specs.declared.rows.Line.{Line}
 use Rattle.desk_types.specs.AdValue.{AdValue, IsInRange}
 use Rattle.desk_types.specs.Eligible.{ad_of, eligible_ads, entrants_for, is_eligible}
+use Rattle.desk_types.specs.Judged.{places_of}
 use Rattle.desk_types.specs.Laws.{AreFirstPlaces}
-use Rattle.desk_types.specs.Page.{AreOfDifferentAccounts, next_below, page, place}
+use Rattle.desk_types.specs.Page.{next_below, page}
 use Rattle.desk_types.specs.State.{State, line_of}
-use Rattle.desk_types.specs.Step.{all_placed}
+use Rattle.desk_types.specs.Step.{accepted, all_placed}
 use Rattle.desk_types.proofs.Accounts.{AreOfDifferentAccounts-from}
 use Rattle.desk_types.proofs.EachRow.{Each}
 use Rattle.desk_types.proofs.Entrants.{entrant_of}
@@ -21,7 +24,7 @@ use Rattle.desk_types.proofs.Pages.{next_below-law, page-first_places}
 use Rattle.rank_core.specs.declared.page.Ranked.{Ranked}
 use Rattle.rank_core.specs.Ranked.{ranked}
 use Rattle.desk_core.specs.Shown.{AreRankedFrom, CanBePriced}
-use Rattle.desk_core.specs.Sound.{HasLine}
+use Rattle.desk_core.specs.Sound.{HasLine, IsSound}
 use Rattle.desk_core.proofs.Placing.{ads_of}
 
 Each-from_All : {A : Type 0} (P : A → Type 0) (xs : List A) → All P xs → Each P xs
@@ -118,3 +121,13 @@ placed-lines S query number n in_range =
     let apart = apart_entrants S query (Each-from_All (λ (l : Line). IsInRange (ad_of l)) S.lines in_range) in
     lines_there S (entrants_for S query) number (page (entrants_for S query) n) (λ a h.
     line_of_ad S query S.lines a (entrant_of (eligible_ads S query) a (page_among (entrants_for S query) n a apart h)).0)
+
+-- a search keeps a desk sound
+pub sound_searched : (S : State) (text : List ℕ) (places : Option ℕ) → IsSound S → IsSound (accepted S (Search text places)).state
+unfolding accepted
+sound_searched S text places h =
+    record {
+      moment = h.moment;
+      lines = h.lines;
+      placements = All-append (HasLine S) S.placements _ h.placements (placed-lines S (words_of text) (length S.placements + 1) (places_of S places) h.lines);
+    }

@@ -29,14 +29,14 @@ impl Ledger {
         ensures stopped { IfErr result (IsStop self.old (Call.Search text.now places)) }
         ensures same { OnErr result (self.new ≡ self.old) }
     {
-        let placements = self.found(text, places)?;
+        let placements = self.placements_for(text, places)?;
         let spots = self.spots(&placements)?;
         self.placements.extend_from_slice(&placements)?;
         Ok(Reply::Page(List::from_vec(spots)))
     }
 
     /// The placements that a search puts.
-    fn found(&self, text: &Text, places: Option<u64>) -> Result<Vec<Placement>, Stop>
+    fn placements_for(&self, text: &Text, places: Option<u64>) -> Result<Vec<Placement>, Stop>
         requires sound { IsSound self.now }
         ensures not_refused { OnOk result (judged self.now (Call.Search text.now places) ≡ None) }
         ensures placements { IfOk result (λ new. new.items ≡ all_placed self.now (entrants_for self.now (words_of text.now)) (length self.now.placements + 1) (page_of self.now text.now places)) }
@@ -80,9 +80,10 @@ impl Ledger {
 
     /// Whether there may be this many more placements.
     fn has_room(&self, more: usize) -> bool
+        requires { more ≤ PLACES_MAX }
         ensures { result ≡ nat_le (length self.now.placements + more) self.now.settings.placements }
     {
-        (self.placements.len() as u128) + (more as u128) <= u128::from(self.settings.placements())
+        (self.placements.len() + more) as u64 <= self.settings.placements()
     }
 }
 

@@ -24,7 +24,7 @@ impl Ledger {
         ensures { IfOk result (λ new. (entered : List AdValue) → AreRankedFrom entered page.now → new.items ≡ all_placed self.now entered (length self.now.placements + 1) (map (λ r. r.ad) page.now)) }
     {
         let first = self.placements.len() as u64 + 1;
-        let mut placements = Vec::new(*self.lines.allocator());
+        let mut placements = Vec::with_capacity(*self.lines.allocator(), page.len())?;
         for (index, ranked) in page.iter().enumerate() {
             let index = index as u64;
             placements.push(self.placement(first + index, index + 1, ranked))?;
@@ -63,7 +63,7 @@ impl Ledger {
         requires { All (HasLine self.now) placements.now }
         ensures { IfOk result (λ spots. spots.items ≡ map (spot_of self.now) placements.now) }
     {
-        let mut spots = Vec::new(*self.lines.allocator());
+        let mut spots = Vec::with_capacity(*self.lines.allocator(), placements.len())?;
         for placement in placements {
             spots.push(self.spot_of(placement)?)?;
         }

@@ -1,4 +1,4 @@
-use Rattle.std.proofs.Common.{◌≡◌, ℕ, ◌+◌, ◌∙◌, ap, subst, sym, length, arith}
+use Rattle.std.proofs.Common.{◌≡◌, ◌+◌, ◌∙◌, ap, subst, sym, length, arith}
 use Rattle.std.specs.Prelude.{Contains}
 use Rattle.desk_types.specs.Page.{next_below, place}
 use Rattle.desk_types.specs.Step.{placed}
@@ -15,9 +15,9 @@ loop-index-preserved c = λ entered h.
     let rows : length c.self.inside.placements.items ≡ length S.placements = ap (λ T. length T.placements) c.self.view_is in
     let next : c.len.result + 1 + i ≡ length S.placements + 1 + i = omega (arith, c.len.ensures, c.self.inside.placements.ok.0, rows) in
     let is = c.placement.ensures entered h.different_accounts
-        (subst (λ q. Contains entered q.ad) (sym at) (h.entrants i r c.loop-index-test.true))
-        (subst (λ q. next_below entered q.ad ≡ q.next) (sym at) (h.nexts i r c.loop-index-test.true))
-        (subst (λ q. place entered q.ad ≡ i + 1) (sym at) (h.places i r c.loop-index-test.true)) in
+    (subst (λ q. Contains entered q.ad) (sym at) (h.entrants i r c.loop-index-test.true))
+    (subst (λ q. next_below entered q.ad ≡ q.next) (sym at) (h.nexts i r c.loop-index-test.true))
+    (subst (λ q. place entered q.ad ≡ i + 1) (sym at) (h.places i r c.loop-index-test.true)) in
     c.in_ok-push.ensures.items
     ∙ placed_more S entered (length S.placements + 1) i page r c.placement.result c.loop-index.placements.items c.loop-index-test.true at
-      (c.loop-index.invariant entered h) (is ∙ ap (λ n. placed S entered n r.ad) next)
+    (c.loop-index.invariant entered h) (is ∙ ap (λ n. placed S entered n r.ad) next)

@@ -1,4 +1,4 @@
-use Rattle.std.proofs.Common.{◌≡◌, ◌∙◌, ◌+◌, ◌++◌, List, length, map, ap, sym}
+use Rattle.std.proofs.Common.{◌≡◌, ◌∙◌, ◌+◌, ◌++◌, List, length, map, ap}
 use Rattle.query_words.specs.Words.{words_of}
 use Rattle.desk_types.specs.declared.reply.Reply.TheVariants.{Page}
 use Rattle.desk_types.specs.declared.rows.Placement.{Placement}

@@ -1,4 +1,4 @@
-use Rattle.std.proofs.Common.{◌≡◌, ◌∙◌, ◌+◌, ℕ, Bool, true, false, List, length, ap, subst, sym}
+use Rattle.std.proofs.Common.{◌≡◌, ◌∙◌, ◌+◌, ℕ, Bool, List, length, ap, subst, sym}
 use Rattle.std.specs.Prelude.{nat_le}
 use Rattle.std.proofs.lemmas.Result.{err_from_is_err_and}
 use Rattle.std.proofs.lemmas.List.Elements.{All-same}
@@ -14,7 +14,7 @@ use Rattle.desk_core.specs.Sound.{HasLine}
 use Rattle.desk_core.proofs.Pages.{ads_of-ranked, length-ranked, placed-lines, ranked-from, ranked-priced}
 use Rattle.desk_core.proofs.Placing.{ads_of}
 use Rattle.desk_core.proofs.Searching.{search_bad_places, search_full, search_not_refused}
-use Rattle.desk_core.proofs.ledger.Ledger.found.Goals as goal
+use Rattle.desk_core.proofs.ledger.Ledger.placements_for.Goals as goal
 
 page_is : (S : State) (text : List ℕ) (query : List (List ℕ)) (places count : _) (page : List Ranked) → query ≡ words_of text → count ≡ places_of S places → page ≡ ranked (entrants_for S query) count → page ≡ ranked (entrants_for S (words_of text)) (places_of S places)
 page_is S text query places count page words counted is = is ∙ (λ i. ranked (entrants_for S (words i)) (counted i))

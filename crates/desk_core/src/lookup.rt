@@ -1,6 +1,6 @@
 //! The lines of a desk by their numbers.
 
-ghost use Rattle.std.specs.Prelude.{◌≡◌, IsTrue, Some, is_some};
+ghost use Rattle.std.specs.Prelude.{◌≡◌, IsTrue, is_some};
 ghost use Rattle.std.specs.Option.{option_copied};
 ghost use Rattle.desk_types.specs.State.{line_of};
 

@@ -1,6 +1,6 @@
 //! Searches.
 
-ghost use Rattle.std.specs.Prelude.{◌≡◌, ◌+◌, ◌≤◌, ℕ, Option, None, List, length, is_none, nat_le, All, IfOk, OnOk, IfErr, OnErr, IfSome};
+ghost use Rattle.std.specs.Prelude.{◌≡◌, ◌+◌, ◌≤◌, ℕ, Option, None, length, is_none, nat_le, All, IfOk, OnOk, IfErr, OnErr, IfSome};
 ghost use Rattle.query_words.specs.Limits.{IsWithinLimits};
 ghost use Rattle.query_words.specs.Words.{words_of};
 ghost use Rattle.desk_types.specs.Eligible.{entrants_for};
@@ -22,7 +22,10 @@ use rank_core::{Ranked, page_of};
 use std::alloc::{AllocError, Global};
 
 impl Ledger {
-    /// A search: each place of the page for the text gets a placement.
+    /// A search: each place of the page for the text, of 1 to 8 places or as many as the settings
+    /// have, gets a placement.
+    ///
+    /// `Err` has the first refusal that holds, or comes for want of memory, and changes nothing.
     pub(crate) fn search(&mut self, text: &Text, places: Option<u64>) -> Result<Reply, Stop>
         requires sound { IsSound self.old }
         ensures accepted { IfOk result (IsAccepted self.old (Call.Search text.now places) self.new) }

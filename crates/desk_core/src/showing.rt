@@ -1,6 +1,6 @@
 //! The placements of a page, and what the page shows of them.
 
-ghost use Rattle.std.specs.Prelude.{◌≡◌, ◌+◌, ◌≤◌, ◌<◌, ◌^◌, List, length, map, All, Contains, IfOk};
+ghost use Rattle.std.specs.Prelude.{◌≡◌, ◌+◌, ◌≤◌, List, length, map, All, Contains, IfOk};
 ghost use Rattle.desk_types.specs.AdValue.{AdValue};
 ghost use Rattle.desk_types.specs.Page.{AreOfDifferentAccounts, next_below, place as the_place};
 ghost use Rattle.desk_types.specs.Step.{all_placed, placed, spot_of};

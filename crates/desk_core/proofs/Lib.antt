@@ -1,7 +1,11 @@
-pub mod Reached
-pub mod Finds
-pub mod Mapped
-pub mod Numbers
-pub mod Journals
+pub mod Charges
 pub mod Desks
+pub mod Finds
+pub mod Journals
+pub mod Mapped
 pub mod Moments
+pub mod Numbers
+pub mod Pages
+pub mod Placing
+pub mod Reached
+pub mod Searching

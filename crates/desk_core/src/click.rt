@@ -3,12 +3,12 @@
 ghost use Rattle.std.specs.Prelude.{◌≡◌, ℕ, List, map, is_some, IsTrue, IsSome, IfSome, ◌↔◌};
 ghost use Rattle.std.specs.Option.{option_copied};
 ghost use Rattle.desk_types.specs.Judged.{judged};
-ghost use Rattle.desk_types.specs.Money.{is_held};
 ghost use Rattle.desk_types.specs.State.{placement_of};
 ghost use Rattle.desk_types.specs.Step.{answered, clicked, link_clicked};
 ghost use Rattle.desk_core.specs.Sound.{IsSound};
 
 use crate::ledger::Ledger;
+use crate::money::is_held;
 use desk_types::{Call, Fate, LinkText, Placement, Refusal, Reply};
 
 impl Ledger {
@@ -35,9 +35,7 @@ impl Ledger {
         ensures link { IfSome result (λ link. link ≡ link_clicked self.now placement) }
     {
         let found = self.placement_of(placement)?;
-        let Some(line) = self.line_of(found.account, found.line) else {
-            unreachable!()
-        };
+        let line = self.line_there(found.account, found.line);
         LinkText::read(line.link.as_str())
     }
 
@@ -62,21 +60,11 @@ fn settle(placements: &mut [Placement], moment: u64, placement: u64)
 fn clicked(moment: u64, placement: u64, row: Placement) -> Placement
     ensures { result ≡ clicked moment placement row }
 {
-    if row.number == placement && is_held(moment, &row) {
+    if row.number == placement && is_held(&row, moment) {
         return Placement {
             fate: Fate::Settled(moment),
             ..row
         };
     }
     row
-}
-
-/// Whether the price of a placement is held at this moment.
-pub(crate) fn is_held(moment: u64, row: &Placement) -> bool
-    ensures { result ≡ is_held moment row.now }
-{
-    match row.fate {
-        Fate::Open => moment < row.deadline,
-        Fate::Settled(_) | Fate::Credited(_, _) => false,
-    }
 }

@@ -1,13 +1,23 @@
 //! The desk: one ledger, asked one call after another, and the journal of its calls.
+//! `Desk::call` gives the ledger's answer and puts the call's entry; `Solo` is a desk that serves one caller.
+//! It stands on `desk_types` for the definitions, on `rank_core` and `gsp_price` for pages and prices.
+//! Where calls come from, and how they are read and answered, is left to the crates above.
 #![tactic(auto)]
 
 mod click;
 mod desk;
+mod eligible;
 mod journal;
 mod ledger;
 mod lookup;
+mod money;
+mod search;
+mod showing;
 mod solo;
 mod stop;
 
 pub use desk::Desk;
 pub use solo::Solo;
+
+#[cfg(test)]
+mod tests;

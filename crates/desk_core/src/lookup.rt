@@ -1,19 +1,30 @@
-//! The rows of a number.
+//! The lines of a desk by their numbers.
 
+ghost use Rattle.std.specs.Prelude.{◌≡◌, IsTrue, is_some};
 ghost use Rattle.std.specs.Option.{option_copied};
-ghost use Rattle.std.specs.Prelude.{◌≡◌};
 ghost use Rattle.desk_types.specs.State.{line_of};
 
 use crate::ledger::Ledger;
 use desk_types::Line;
 
 impl Ledger {
-    /// The account's line of this number, if there is one.
-    pub(crate) fn line_of(&self, account: u64, line: u64) -> Option<&Line>
+    /// The line of an account and a number that is there.
+    pub(crate) fn line_there(&self, account: u64, line: u64) -> &Line
+        requires { IsTrue (is_some (line_of self.now account line)) }
+        ensures { line_of self.now account line ≡ Some result.now }
+    {
+        match self.line_of(account, line) {
+            Some(line) => line,
+            None => unreachable!(),
+        }
+    }
+
+    /// The line of an account and a number, if there is one.
+    fn line_of(&self, account: u64, line: u64) -> Option<&Line>
         ensures { option_copied result ≡ line_of self.now account line }
     {
         self.lines
             .iter()
-            .find(|row| row.account == account && row.number == line)
+            .find(|l| l.account == account && l.number == line)
     }
 }

@@ -1,0 +1,133 @@
+//! Which lines compete for a query.
+
+ghost use Rattle.std.specs.Prelude.{◌≡◌, ◌==◌, ◌&&◌, not, All, IfOk};
+ghost use Rattle.desk_types.specs.AdValue.{IsInRange};
+ghost use Rattle.desk_types.specs.Eligible.{ad_of, eligible_ads, has_active_account, has_active_campaign, is_eligible, is_kept_out, is_matched, meets_floor, meets_reserve};
+
+use crate::ledger::Ledger;
+use desk_types::{Account, Ad, Campaign, Line, Negative};
+use match_types::{Pattern, matches};
+use query_words::Words;
+use std::alloc::AllocError;
+
+impl Ledger {
+    /// The lines that compete for the words of a query, as ads.
+    pub(crate) fn eligible_ads(&self, query: &Words) -> Result<Vec<Ad>, AllocError>
+        requires { All (λ l. IsInRange (ad_of l)) self.now.lines }
+        ensures { IfOk result (λ ads. ads.items ≡ eligible_ads self.now query.now) }
+    {
+        let mut ads = Vec::new(*self.lines.allocator());
+        for line in &self.lines {
+            if self.is_eligible(query, line) {
+                ads.push(ad_of(line))?;
+            }
+        }
+        Ok(ads)
+    }
+
+    /// Whether a line competes for the words of a query.
+    #[tactic(auto, unfolding(desk_types::specs::Eligible::is_eligible))]
+    fn is_eligible(&self, query: &Words, line: &Line) -> bool
+        requires { IsInRange (ad_of line.now) }
+        ensures { result ≡ is_eligible self.now query.now line.now }
+    {
+        line.on
+            && is_matched(&line.pattern, query)
+            && self.meets_reserve(line)
+            && self.meets_floor(line)
+            && self.has_active_account(line)
+            && self.has_active_campaign(line)
+            && !self.is_kept_out(query, line)
+            && self.can_pay(line)
+    }
+
+    /// Whether its account is there and not suspended.
+    fn has_active_account(&self, line: &Line) -> bool
+        ensures { result ≡ has_active_account self.now line.now }
+    {
+        self.accounts
+            .iter()
+            .any(|account| is_active_account(account, line))
+    }
+
+    /// Whether its campaign is there and on.
+    fn has_active_campaign(&self, line: &Line) -> bool
+        ensures { result ≡ has_active_campaign self.now line.now }
+    {
+        self.campaigns
+            .iter()
+            .any(|campaign| is_active_campaign(campaign, line))
+    }
+
+    /// Whether a live negative of its campaign matches the query.
+    fn is_kept_out(&self, query: &Words, line: &Line) -> bool
+        ensures { result ≡ is_kept_out self.now query.now line.now }
+    {
+        self.negatives
+            .iter()
+            .any(|negative| keeps_out(negative, query, line))
+    }
+
+    /// Whether its bid is at least the reserve.
+    fn meets_reserve(&self, line: &Line) -> bool
+        ensures { result ≡ meets_reserve self.now line.now }
+    {
+        self.settings.reserve() <= line.bid
+    }
+
+    /// Whether its score is at least the floor.
+    fn meets_floor(&self, line: &Line) -> bool
+        requires { IsInRange (ad_of line.now) }
+        ensures { result ≡ meets_floor self.now line.now }
+    {
+        self.settings.floor() <= ad_of(line).score()
+    }
+}
+
+/// A line as an ad.
+fn ad_of(line: &Line) -> Ad
+    requires { IsInRange (ad_of line.now) }
+    ensures { result ≡ ad_of line.now }
+{
+    match Ad::new(
+        line.account,
+        line.campaign,
+        line.number,
+        line.bid,
+        line.quality,
+    ) {
+        Some(ad) => ad,
+        None => unreachable!(),
+    }
+}
+
+/// Whether an account is that of the line, and not suspended.
+fn is_active_account(account: &Account, line: &Line) -> bool
+    ensures { result ≡ (account.now.number == line.now.account && not account.now.suspended) }
+{
+    account.number == line.account && !account.suspended
+}
+
+/// Whether a campaign is that of the line, and on.
+fn is_active_campaign(campaign: &Campaign, line: &Line) -> bool
+    ensures { result ≡ (campaign.now.account == line.now.account && (campaign.now.number == line.now.campaign && campaign.now.on)) }
+{
+    campaign.account == line.account && campaign.number == line.campaign && campaign.on
+}
+
+/// Whether a negative is a live one of the line's campaign that matches the query.
+fn keeps_out(negative: &Negative, query: &Words, line: &Line) -> bool
+    ensures { result ≡ (negative.now.account == line.now.account && (negative.now.campaign == line.now.campaign && (negative.now.live && is_matched negative.now.pattern query.now))) }
+{
+    negative.account == line.account
+        && negative.campaign == line.campaign
+        && negative.live
+        && is_matched(&negative.pattern, query)
+}
+
+/// Whether a pattern matches the words of a query.
+fn is_matched(pattern: &Pattern, query: &Words) -> bool
+    ensures { result ≡ is_matched pattern.now query.now }
+{
+    matches(pattern.kind(), pattern.words(), query)
+}

@@ -1,6 +1,9 @@
 //! The desk: one ledger, asked one call after another, and the journal of its calls.
 #![tactic(auto)]
 
+mod accounts;
+mod fields;
+mod finds;
 mod ledger;
 mod stop;
 

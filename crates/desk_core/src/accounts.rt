@@ -1,0 +1,99 @@
+//! The making of accounts and campaigns.
+
+ghost use Rattle.std.specs.Prelude.{◌≡◌, ◌<◌, ◌-◌, ◌^◌, ◌∷◌, ◌++◌, [], not, is_none, IfOk, IfErr, OnErr, OnOk};
+ghost use Rattle.desk_types.specs.declared.call.Call.{Call};
+ghost use Rattle.desk_types.specs.declared.refusal.Refusal.{Refusal};
+ghost use Rattle.desk_types.specs.Judged.{first, judged, key_fits, when};
+ghost use Rattle.desk_types.specs.State.{account_of};
+ghost use Rattle.desk_core.specs.Ends.{IsAccepted, IsStop};
+ghost use Rattle.desk_core.specs.Sound.{IsSound};
+
+use crate::fields::is_key;
+use crate::finds::{count_campaigns, fits_key, has_account};
+use crate::ledger::Ledger;
+use crate::stop::Stop;
+use desk_types::limits::{ACCOUNTS_MAX, BUDGET_MAX, BUDGET_MIN, CAMPAIGNS_MAX};
+use desk_types::{Account, BudgetSet, Campaign, Field, Refusal, Reply};
+use query_words::{NoMemory, Text, Twin};
+
+impl Ledger {
+    /// Why a call in the name of this account with this key is refused before all else, if it is.
+    #[tactic(auto, using(crate::proofs::FindLemmas::none_found))]
+    pub(crate) fn judge_owner(&self, account: u64, key: &Text) -> Option<Refusal>
+        ensures { result ≡ first (when (is_none (account_of self.now account)) Refusal.NoAccount ∷ when (not (key_fits self.now account key.now)) Refusal.BadKey ∷ []) }
+    {
+        if !has_account(&self.accounts, account) {
+            return Some(Refusal::NoAccount);
+        }
+        if !fits_key(&self.accounts, account, key) {
+            return Some(Refusal::BadKey);
+        }
+        None
+    }
+
+    /// Why an account with this key is not made, if it is not.
+    #[tactic(auto, unfolding(desk_types::specs::Judged::refusals))]
+    fn judge_account(&self, key: &Text) -> Option<Refusal>
+        ensures { result ≡ judged self.now (Call.AddAccount key.now) }
+    {
+        if !is_key(key.as_str()) {
+            return Some(Refusal::BadField(Field::Key));
+        }
+        if self.accounts.len() as u64 >= ACCOUNTS_MAX {
+            return Some(Refusal::AccountsFull);
+        }
+        None
+    }
+
+    /// Why a campaign is not made, if it is not.
+    #[tactic(auto, unfolding(desk_types::specs::Judged::refusals))]
+    fn judge_campaign(&self, account: u64, key: &Text, budget: u64) -> Option<Refusal>
+        ensures { result ≡ judged self.now (Call.AddCampaign account key.now budget) }
+    {
+        if let Some(refusal) = self.judge_owner(account, key) {
+            return Some(refusal);
+        }
+        if !(BUDGET_MIN..=BUDGET_MAX).contains(&budget) {
+            return Some(Refusal::BadField(Field::Budget));
+        }
+        if count_campaigns(&self.campaigns, account) >= CAMPAIGNS_MAX {
+            return Some(Refusal::CampaignsFull);
+        }
+        None
+    }
+
+    /// Makes an account.
+    #[tactic(auto, unfolding(desk_types::specs::Step::accepted))]
+    pub(crate) fn add_account(&mut self, key: &Text) -> Result<Reply, Stop>
+        requires { self.old.edition < 2 ^ 64 - 1 }
+        ensures accepted { IfOk result (IsAccepted self.old (Call.AddAccount key.now) self.new) }
+        ensures stopped { IfErr result (IsStop self.old (Call.AddAccount key.now)) }
+        ensures same { OnErr result (self.new ≡ self.old) }
+    {
+        if let Some(refusal) = self.judge_account(key) {
+            return Err(Stop::Refused(refusal));
+        }
+        let number = self.accounts.len() as u64 + 1;
+        let key = key.twin()?;
+        let suspended = false;
+        put(
+            &mut self.accounts,
+            Account {
+                number,
+                key,
+                suspended,
+            },
+        )?;
+        self.edition += 1;
+        Ok(Reply::Made(number))
+    }
+}
+
+/// Puts a row last, or leaves the rows as they were, for want of memory.
+pub(crate) fn put<T: Drop>(rows: &mut Vec<T>, row: T) -> Result<(), NoMemory>
+    ensures put { OnOk result (rows.new.items ≡ rows.old.items ++ row ∷ []) }
+    ensures same { OnErr result (rows.new.items ≡ rows.old.items) }
+{
+    rows.push(row)?;
+    Ok(())
+}

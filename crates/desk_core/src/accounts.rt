@@ -87,6 +87,37 @@ impl Ledger {
         self.edition += 1;
         Ok(Reply::Made(number))
     }
+
+    /// Makes a campaign, which is on from the start, with the budget of its first day.
+    #[tactic(auto, unfolding(desk_types::specs::Step::accepted))]
+    pub(crate) fn add_campaign(&mut self, account: u64, key: &Text, budget: u64) -> Result<Reply, Stop>
+        requires { self.old.edition < 2 ^ 64 - 1 }
+        ensures accepted { IfOk result (IsAccepted self.old (Call.AddCampaign account key.now budget) self.new) }
+        ensures stopped { IfErr result (IsStop self.old (Call.AddCampaign account key.now budget)) }
+        ensures same { OnErr result (self.new ≡ self.old) }
+    {
+        if let Some(refusal) = self.judge_campaign(account, key, budget) {
+            return Err(Stop::Refused(refusal));
+        }
+        let number = count_campaigns(&self.campaigns, account) + 1;
+        self.campaigns.reserve(1)?;
+        put(
+            &mut self.budgets,
+            BudgetSet {
+                account,
+                campaign: number,
+                at: self.moment,
+                amount: budget,
+            },
+        )?;
+        self.campaigns.push_reserved(Campaign {
+            account,
+            number,
+            on: true,
+        });
+        self.edition += 1;
+        Ok(Reply::Made(number))
+    }
 }
 
 /// Puts a row last, or leaves the rows as they were, for want of memory.

@@ -5,6 +5,8 @@ mod accounts;
 mod fields;
 mod finds;
 mod ledger;
+mod negatives;
+mod patterns;
 mod stop;
 
 pub use ledger::Ledger;

@@ -4,12 +4,12 @@ ghost use Rattle.std.specs.Prelude.{◌≡◌, ◌<◌, ◌-◌, ◌^◌, ◌∷
 ghost use Rattle.desk_types.specs.declared.call.Call.{Call};
 ghost use Rattle.desk_types.specs.declared.refusal.Refusal.{Refusal};
 ghost use Rattle.desk_types.specs.Judged.{first, judged, key_fits, when};
-ghost use Rattle.desk_types.specs.State.{account_of};
+ghost use Rattle.desk_types.specs.State.{account_of, campaign_of};
 ghost use Rattle.desk_core.specs.Ends.{IsAccepted, IsStop};
 ghost use Rattle.desk_core.specs.Sound.{IsSound};
 
 use crate::fields::is_key;
-use crate::finds::{count_campaigns, fits_key, has_account};
+use crate::finds::{count_campaigns, fits_key, has_account, has_campaign};
 use crate::ledger::Ledger;
 use crate::stop::Stop;
 use desk_types::limits::{ACCOUNTS_MAX, BUDGET_MAX, BUDGET_MIN, CAMPAIGNS_MAX};
@@ -27,6 +27,20 @@ impl Ledger {
         }
         if !fits_key(&self.accounts, account, key) {
             return Some(Refusal::BadKey);
+        }
+        None
+    }
+
+    /// Why a call that puts something into this campaign is refused before all else, if it is.
+    #[tactic(auto, using(crate::proofs::FindLemmas::none_found))]
+    pub(crate) fn judge_place(&self, account: u64, key: &Text, campaign: u64) -> Option<Refusal>
+        ensures { result ≡ first (when (is_none (account_of self.now account)) Refusal.NoAccount ∷ when (not (key_fits self.now account key.now)) Refusal.BadKey ∷ when (is_none (campaign_of self.now account campaign)) Refusal.NoCampaign ∷ []) }
+    {
+        if let Some(refusal) = self.judge_owner(account, key) {
+            return Some(refusal);
+        }
+        if !has_campaign(&self.campaigns, account, campaign) {
+            return Some(Refusal::NoCampaign);
         }
         None
     }

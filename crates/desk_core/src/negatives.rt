@@ -1,15 +1,17 @@
 //! The making and dropping of negatives.
 
-ghost use Rattle.std.specs.Prelude.{◌≡◌, ◌<◌, ◌-◌, ◌^◌, ◌==◌, ◌&&◌, not, None, find, map, option_copied, IfOk, IfErr, OnErr, OnOk};
+ghost use Rattle.std.specs.Prelude.{◌≡◌, ◌<◌, ◌-◌, ◌^◌, ◌==◌, ◌&&◌, not, None, is_none, nat_le, count_by, find, map, option_copied, option_map, ◌∷◌, [], IfOk, IfErr, OnErr, OnOk};
 ghost use Rattle.match_types.specs.Pattern.{negative_text};
 ghost use Rattle.match_types.specs.Tests.{is_same_pattern};
 ghost use Rattle.desk_types.specs.declared.call.Call.{Call};
-ghost use Rattle.desk_types.specs.Judged.{judged};
+ghost use Rattle.desk_types.specs.declared.refusal.Refusal.{Refusal};
+ghost use Rattle.desk_types.specs.Judged.{first, judged, when};
+ghost use Rattle.desk_types.specs.State.{negatives_of};
 ghost use Rattle.desk_types.specs.Step.{with_live};
 ghost use Rattle.desk_core.specs.Ends.{IsAccepted, IsStop};
 
 use crate::accounts::put;
-use crate::finds::{count_negatives, has_campaign, has_live_negative};
+use crate::finds::{count_negatives, has_live_negative};
 use crate::ledger::Ledger;
 use crate::stop::Stop;
 use desk_types::limits::NEGATIVES_MAX;
@@ -47,6 +49,66 @@ impl Ledger {
         self.edition += 1;
         Ok(Reply::Done)
     }
+
+    /// The pattern of a negative that may be made, or why none is.
+    #[tactic(auto, unfolding(desk_types::specs::Judged::refusals))]
+    fn judge_negative(&self, account: u64, key: &Text, campaign: u64, text: &Text) -> Result<Pattern, Stop>
+        ensures pattern { IfOk result (λ pattern. pattern ≡ negative_text text.now) }
+        ensures accepted { OnOk result (judged self.now (Call.AddNegative account key.now campaign text.now) ≡ None) }
+        ensures stopped { IfErr result (IsStop self.now (Call.AddNegative account key.now campaign text.now)) }
+    {
+        if let Some(refusal) = self.judge_place(account, key, campaign) {
+            return Err(Stop::Refused(refusal));
+        }
+        let pattern = Pattern::read_negative(*self.negatives.allocator(), text.as_str())?;
+        if let Some(refusal) = self.judge_further(account, campaign, &pattern) {
+            return Err(Stop::Refused(refusal));
+        }
+        Ok(pattern)
+    }
+
+    /// Why a negative of this pattern is not made, if it is not.
+    fn judge_further(&self, account: u64, campaign: u64, pattern: &Pattern) -> Option<Refusal>
+        ensures { result ≡ first (option_map (λ n. Refusal.NegativeThere n.number) (find (λ n. n.account == account && (n.campaign == campaign && (n.live && is_same_pattern n.pattern pattern.now))) self.now.negatives) ∷ when (is_none (find (λ n. n.account == account && (n.campaign == campaign && (not n.live && is_same_pattern n.pattern pattern.now))) self.now.negatives) && nat_le NEGATIVES_MAX (negatives_of self.now account)) Refusal.NegativesFull ∷ []) }
+    {
+        if let Some(there) = live_negative(&self.negatives, account, campaign, pattern) {
+            return Some(Refusal::NegativeThere(there.number));
+        }
+        if is_full(&self.negatives, account, campaign, pattern) {
+            return Some(Refusal::NegativesFull);
+        }
+        None
+    }
+
+    /// Makes a negative, or makes the dropped one of the same pattern live again.
+    #[tactic(auto, unfolding(desk_types::specs::Step::accepted))]
+    pub(crate) fn add_negative(&mut self, account: u64, key: &Text, campaign: u64, pattern: &Text) -> Result<Reply, Stop>
+        requires { self.old.edition < 2 ^ 64 - 1 }
+        ensures accepted { IfOk result (IsAccepted self.old (Call.AddNegative account key.now campaign pattern.now) self.new) }
+        ensures stopped { IfErr result (IsStop self.old (Call.AddNegative account key.now campaign pattern.now)) }
+        ensures same { OnErr result (self.new ≡ self.old) }
+    {
+        let pattern = self.judge_negative(account, key, campaign, pattern)?;
+        let dropped = dropped_negative(&self.negatives, account, campaign, &pattern).map(|row| row.number);
+        if let Some(number) = dropped {
+            set_live(&mut self.negatives, account, number, true);
+            self.edition += 1;
+            return Ok(Reply::Made(number));
+        }
+        let number = count_negatives(&self.negatives, account) + 1;
+        put(
+            &mut self.negatives,
+            Negative {
+                account,
+                number,
+                campaign,
+                pattern,
+                live: true,
+            },
+        )?;
+        self.edition += 1;
+        Ok(Reply::Made(number))
+    }
 }
 
 /// The live negative of the campaign with the same pattern, if there is one.
@@ -65,6 +127,14 @@ fn dropped_negative<'a>(negatives: &'a [Negative], account: u64, campaign: u64, 
     negatives.iter().find(|row| {
         row.account == account && row.campaign == campaign && !row.live && row.pattern.is_same(pattern)
     })
+}
+
+/// Whether a negative of this pattern would be a new one, and the account has as many as it may have.
+fn is_full(negatives: &[Negative], account: u64, campaign: u64, pattern: &Pattern) -> bool
+    ensures { result ≡ (is_none (find (λ n. n.account == account && (n.campaign == campaign && (not n.live && is_same_pattern n.pattern pattern.now))) negatives.now) && nat_le NEGATIVES_MAX (count_by (λ n. n.account == account) negatives.now)) }
+{
+    dropped_negative(negatives, account, campaign, pattern).is_none()
+        && count_negatives(negatives, account) >= NEGATIVES_MAX
 }
 
 /// Drops the account's negative of this number, or makes it live.

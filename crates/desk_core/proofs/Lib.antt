@@ -1,3 +1,4 @@
 pub mod FindLemmas
+pub mod LineLemmas
 pub mod NegativeLemmas
 pub mod Tables

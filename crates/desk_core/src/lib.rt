@@ -5,6 +5,7 @@ mod accounts;
 mod fields;
 mod finds;
 mod ledger;
+mod lines;
 mod negatives;
 mod patterns;
 mod stop;

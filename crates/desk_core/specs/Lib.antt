@@ -1,3 +1,4 @@
 pub mod Ends
 pub mod Patterning
 pub mod Sound
+pub mod TableParts

@@ -1,12 +1,10 @@
 //! The making of accounts and campaigns.
 
-ghost use Rattle.std.specs.Prelude.{◌≡◌, ◌<◌, ◌-◌, ◌^◌, ◌∷◌, ◌++◌, [], not, is_none, IfOk, IfErr, OnErr, OnOk};
+ghost use Rattle.std.specs.Prelude.{◌≡◌, ◌<◌, ◌-◌, ◌^◌, ◌∷◌, ◌++◌, [], IfOk, IfErr, OnErr, OnOk};
 ghost use Rattle.desk_types.specs.declared.call.Call.{Call};
-ghost use Rattle.desk_types.specs.declared.refusal.Refusal.{Refusal};
-ghost use Rattle.desk_types.specs.Judged.{first, judged, key_fits, when};
-ghost use Rattle.desk_types.specs.State.{account_of, campaign_of};
+ghost use Rattle.desk_types.specs.Judged.{judged};
 ghost use Rattle.desk_core.specs.Ends.{IsAccepted, IsStop};
-ghost use Rattle.desk_core.specs.Sound.{IsSound};
+ghost use Rattle.desk_core.specs.TableParts.{owner_refusal, place_refusal};
 
 use crate::fields::is_key;
 use crate::finds::{count_campaigns, fits_key, has_account, has_campaign};
@@ -20,7 +18,7 @@ impl Ledger {
     /// Why a call in the name of this account with this key is refused before all else, if it is.
     #[tactic(auto, using(crate::proofs::FindLemmas::none_found))]
     pub(crate) fn judge_owner(&self, account: u64, key: &Text) -> Option<Refusal>
-        ensures { result ≡ first (when (is_none (account_of self.now account)) Refusal.NoAccount ∷ when (not (key_fits self.now account key.now)) Refusal.BadKey ∷ []) }
+        ensures { result ≡ owner_refusal self.now account key.now }
     {
         if !has_account(&self.accounts, account) {
             return Some(Refusal::NoAccount);
@@ -34,7 +32,7 @@ impl Ledger {
     /// Why a call that puts something into this campaign is refused before all else, if it is.
     #[tactic(auto, using(crate::proofs::FindLemmas::none_found))]
     pub(crate) fn judge_place(&self, account: u64, key: &Text, campaign: u64) -> Option<Refusal>
-        ensures { result ≡ first (when (is_none (account_of self.now account)) Refusal.NoAccount ∷ when (not (key_fits self.now account key.now)) Refusal.BadKey ∷ when (is_none (campaign_of self.now account campaign)) Refusal.NoCampaign ∷ []) }
+        ensures { result ≡ place_refusal self.now account key.now campaign }
     {
         if let Some(refusal) = self.judge_owner(account, key) {
             return Some(refusal);

@@ -1,14 +1,12 @@
 //! The making of lines.
 
-ghost use Rattle.std.specs.Prelude.{◌≡◌, ◌+◌, ◌<◌, ◌-◌, ◌^◌, ◌∷◌, [], ◌==◌, ◌&&◌, not, true, None, is_none, nat_le, find, option_copied, option_map, IfOk, IfErr, OnErr, OnOk};
+ghost use Rattle.std.specs.Prelude.{◌≡◌, ◌+◌, ◌<◌, ◌-◌, ◌^◌, true, None, find, option_copied, IfOk, IfErr, OnErr, OnOk};
 ghost use Rattle.match_types.specs.Marks.{trimmed};
-ghost use Rattle.match_types.specs.Tests.{is_same_pattern};
 ghost use Rattle.desk_types.specs.declared.call.Call.{Call};
-ghost use Rattle.desk_types.specs.declared.refusal.Field.{Field};
-ghost use Rattle.desk_types.specs.declared.refusal.Refusal.{Refusal};
-ghost use Rattle.desk_types.specs.Judged.{first, is_within, judged, key_fits, when};
-ghost use Rattle.desk_types.specs.State.{account_of, campaign_of, lines_of};
+ghost use Rattle.desk_types.specs.Judged.{first, judged};
+ghost use Rattle.desk_types.specs.State.{lines_of};
 ghost use Rattle.desk_core.specs.Ends.{IsAccepted, IsStop};
+ghost use Rattle.desk_core.specs.TableParts.{bid_refusal, is_line_like, line_refusals};
 
 use crate::accounts::put;
 use crate::fields::is_headline;
@@ -71,7 +69,7 @@ impl Ledger {
 
     /// Why a line in this campaign with this bid is refused before its texts are read, if it is.
     fn judge_bid(&self, account: u64, key: &Text, campaign: u64, bid: u64) -> Option<Refusal>
-        ensures { result ≡ first (when (is_none (account_of self.now account)) Refusal.NoAccount ∷ when (not (key_fits self.now account key.now)) Refusal.BadKey ∷ when (is_none (campaign_of self.now account campaign)) Refusal.NoCampaign ∷ when (not (is_within BID_MIN BID_MAX bid)) (Refusal.BadField Field.Bid) ∷ []) }
+        ensures { result ≡ bid_refusal self.now account key.now campaign bid }
     {
         if let Some(refusal) = self.judge_place(account, key, campaign) {
             return Some(refusal);
@@ -84,7 +82,7 @@ impl Ledger {
 
     /// Why a line of this pattern is not made, if it is not.
     fn judge_line(&self, account: u64, campaign: u64, pattern: &Pattern) -> Option<Refusal>
-        ensures { result ≡ first (option_map (λ l. Refusal.LineThere l.number) (find (λ l. l.account == account && (l.campaign == campaign && is_same_pattern l.pattern pattern.now)) self.now.lines) ∷ when (nat_le LINES_MAX (lines_of self.now account)) Refusal.LinesFull ∷ []) }
+        ensures { result ≡ first (line_refusals self.now account campaign pattern.now) }
     {
         if let Some(there) = same_line(&self.lines, account, campaign, pattern) {
             return Some(Refusal::LineThere(there.number));
@@ -98,7 +96,7 @@ impl Ledger {
 
 /// The line of the campaign with the same pattern, if there is one.
 fn same_line<'a>(lines: &'a [Line], account: u64, campaign: u64, pattern: &Pattern) -> Option<&'a Line>
-    ensures { option_copied result ≡ find (λ l. l.account == account && (l.campaign == campaign && is_same_pattern l.pattern pattern.now)) lines.now }
+    ensures { option_copied result ≡ find (is_line_like account campaign pattern.now) lines.now }
 {
     lines
         .iter()

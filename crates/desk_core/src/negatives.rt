@@ -1,14 +1,12 @@
 //! The making and dropping of negatives.
 
-ghost use Rattle.std.specs.Prelude.{◌≡◌, ◌<◌, ◌-◌, ◌^◌, ◌==◌, ◌&&◌, not, None, is_none, nat_le, count_by, find, map, option_copied, option_map, ◌∷◌, [], IfOk, IfErr, OnErr, OnOk};
+ghost use Rattle.std.specs.Prelude.{◌≡◌, ◌<◌, ◌-◌, ◌^◌, None, find, map, option_copied, IfOk, IfErr, OnErr, OnOk};
 ghost use Rattle.match_types.specs.Pattern.{negative_text};
-ghost use Rattle.match_types.specs.Tests.{is_same_pattern};
 ghost use Rattle.desk_types.specs.declared.call.Call.{Call};
-ghost use Rattle.desk_types.specs.declared.refusal.Refusal.{Refusal};
-ghost use Rattle.desk_types.specs.Judged.{first, judged, when};
-ghost use Rattle.desk_types.specs.State.{negatives_of};
+ghost use Rattle.desk_types.specs.Judged.{first, judged};
 ghost use Rattle.desk_types.specs.Step.{with_live};
 ghost use Rattle.desk_core.specs.Ends.{IsAccepted, IsStop};
+ghost use Rattle.desk_core.specs.TableParts.{has_no_room, is_dropped_like, is_live_like, negative_refusals};
 
 use crate::accounts::put;
 use crate::finds::{count_negatives, has_live_negative};
@@ -69,12 +67,12 @@ impl Ledger {
 
     /// Why a negative of this pattern is not made, if it is not.
     fn judge_further(&self, account: u64, campaign: u64, pattern: &Pattern) -> Option<Refusal>
-        ensures { result ≡ first (option_map (λ n. Refusal.NegativeThere n.number) (find (λ n. n.account == account && (n.campaign == campaign && (n.live && is_same_pattern n.pattern pattern.now))) self.now.negatives) ∷ when (is_none (find (λ n. n.account == account && (n.campaign == campaign && (not n.live && is_same_pattern n.pattern pattern.now))) self.now.negatives) && nat_le NEGATIVES_MAX (negatives_of self.now account)) Refusal.NegativesFull ∷ []) }
+        ensures { result ≡ first (negative_refusals self.now account campaign pattern.now) }
     {
         if let Some(there) = live_negative(&self.negatives, account, campaign, pattern) {
             return Some(Refusal::NegativeThere(there.number));
         }
-        if is_full(&self.negatives, account, campaign, pattern) {
+        if has_no_room(&self.negatives, account, campaign, pattern) {
             return Some(Refusal::NegativesFull);
         }
         None
@@ -113,7 +111,7 @@ impl Ledger {
 
 /// The live negative of the campaign with the same pattern, if there is one.
 fn live_negative<'a>(negatives: &'a [Negative], account: u64, campaign: u64, pattern: &Pattern) -> Option<&'a Negative>
-    ensures { option_copied result ≡ find (λ n. n.account == account && (n.campaign == campaign && (n.live && is_same_pattern n.pattern pattern.now))) negatives.now }
+    ensures { option_copied result ≡ find (is_live_like account campaign pattern.now) negatives.now }
 {
     negatives.iter().find(|row| {
         row.account == account && row.campaign == campaign && row.live && row.pattern.is_same(pattern)
@@ -122,7 +120,7 @@ fn live_negative<'a>(negatives: &'a [Negative], account: u64, campaign: u64, pat
 
 /// The dropped negative of the campaign with the same pattern, if there is one.
 fn dropped_negative<'a>(negatives: &'a [Negative], account: u64, campaign: u64, pattern: &Pattern) -> Option<&'a Negative>
-    ensures { option_copied result ≡ find (λ n. n.account == account && (n.campaign == campaign && (not n.live && is_same_pattern n.pattern pattern.now))) negatives.now }
+    ensures { option_copied result ≡ find (is_dropped_like account campaign pattern.now) negatives.now }
 {
     negatives.iter().find(|row| {
         row.account == account && row.campaign == campaign && !row.live && row.pattern.is_same(pattern)
@@ -130,8 +128,8 @@ fn dropped_negative<'a>(negatives: &'a [Negative], account: u64, campaign: u64, 
 }
 
 /// Whether a negative of this pattern would be a new one, and the account has as many as it may have.
-fn is_full(negatives: &[Negative], account: u64, campaign: u64, pattern: &Pattern) -> bool
-    ensures { result ≡ (is_none (find (λ n. n.account == account && (n.campaign == campaign && (not n.live && is_same_pattern n.pattern pattern.now))) negatives.now) && nat_le NEGATIVES_MAX (count_by (λ n. n.account == account) negatives.now)) }
+fn has_no_room(negatives: &[Negative], account: u64, campaign: u64, pattern: &Pattern) -> bool
+    ensures { result ≡ has_no_room negatives.now account campaign pattern.now }
 {
     dropped_negative(negatives, account, campaign, pattern).is_none()
         && count_negatives(negatives, account) >= NEGATIVES_MAX

@@ -1,5 +1,5 @@
 -- How a call ends on the rows, at the moment that they have.
-use Rattle.std.specs.Prelude.{◌≡◌, Option, None, Some, ⊤}
+use Rattle.std.specs.Prelude.{◌≡◌, None, Some, ⊤}
 use Rattle.desk_types.specs.declared.call.Call.{Call}
 use Rattle.desk_types.specs.declared.reply.Reply.{Reply}
 use Rattle.desk_types.specs.Judged.{judged}

@@ -1,5 +1,5 @@
 -- What holds of the rows at each moment of a desk.
-use Rattle.std.specs.Prelude.{ℕ, ◌≤◌, All, is_some, IsTrue}
+use Rattle.std.specs.Prelude.{◌≤◌, All, is_some, IsTrue}
 use Rattle.desk_types.specs.declared.limits.TheConstants.{MOMENT_MAX}
 use Rattle.desk_types.specs.declared.rows.Placement.{Placement}
 use Rattle.desk_types.specs.AdValue.{IsInRange}

@@ -18,21 +18,21 @@ owner_refusal S account key = first (when (is_none (account_of S account)) NoAcc
 abbrev pub place_refusal : State → ℕ → List ℕ → ℕ → Option Refusal
 place_refusal S account key campaign =
     first (
-      when (is_none (account_of S account)) NoAccount
-      ∷ when (not (key_fits S account key)) BadKey
-      ∷ when (is_none (campaign_of S account campaign)) NoCampaign
-      ∷ []
+    when (is_none (account_of S account)) NoAccount
+    ∷ when (not (key_fits S account key)) BadKey
+    ∷ when (is_none (campaign_of S account campaign)) NoCampaign
+    ∷ []
     )
 
 -- the refusal for these and the bid
 abbrev pub bid_refusal : State → ℕ → List ℕ → ℕ → ℕ → Option Refusal
 bid_refusal S account key campaign bid =
     first (
-      when (is_none (account_of S account)) NoAccount
-      ∷ when (not (key_fits S account key)) BadKey
-      ∷ when (is_none (campaign_of S account campaign)) NoCampaign
-      ∷ when (not (is_within BID_MIN BID_MAX bid)) (BadField field.Bid)
-      ∷ []
+    when (is_none (account_of S account)) NoAccount
+    ∷ when (not (key_fits S account key)) BadKey
+    ∷ when (is_none (campaign_of S account campaign)) NoCampaign
+    ∷ when (not (is_within BID_MIN BID_MAX bid)) (BadField field.Bid)
+    ∷ []
     )
 
 -- whether a line is of the campaign and has the same pattern

@@ -86,23 +86,24 @@ impl Ledger {
             return Err(Stop::Refused(refusal));
         }
         let number = self.accounts.len() as u64 + 1;
-        let key = key.twin()?;
-        let suspended = false;
-        put(
-            &mut self.accounts,
-            Account {
-                number,
-                key,
-                suspended,
-            },
-        )?;
+        let account = Account {
+            number,
+            key: key.twin()?,
+            suspended: false,
+        };
+        put(&mut self.accounts, account)?;
         self.edition += 1;
         Ok(Reply::Made(number))
     }
 
     /// Makes a campaign, which is on from the start, with the budget of its first day.
     #[tactic(auto, unfolding(desk_types::specs::Step::accepted))]
-    pub(crate) fn add_campaign(&mut self, account: u64, key: &Text, budget: u64) -> Result<Reply, Stop>
+    pub(crate) fn add_campaign(
+        &mut self,
+        account: u64,
+        key: &Text,
+        budget: u64,
+    ) -> Result<Reply, Stop>
         requires { self.old.edition < 2 ^ 64 - 1 }
         ensures accepted { IfOk result (IsAccepted self.old (Call.AddCampaign account key.now budget) self.new) }
         ensures stopped { IfErr result (IsStop self.old (Call.AddCampaign account key.now budget)) }

@@ -35,9 +35,7 @@ pub(crate) fn has_campaign(campaigns: &[Campaign], account: u64, campaign: u64) 
 pub(crate) fn has_live_negative(negatives: &[Negative], account: u64, negative: u64) -> bool
     ensures { result ≡ list_any (λ n. n.account == account && (n.number == negative && n.live)) negatives.now }
 {
-    negatives
-        .iter()
-        .any(|row| row.account == account && row.number == negative && row.live)
+    negatives.iter().any(|row| row.account == account && row.number == negative && row.live)
 }
 
 /// How many campaigns the account has.
@@ -45,7 +43,10 @@ pub(crate) fn count_campaigns(campaigns: &[Campaign], account: u64) -> u64
     ensures count { result ≡ count_by (λ c. c.account == account) campaigns.now }
     ensures below { result < 2 ^ 63 }
 {
-    campaigns.iter().filter(|row| row.account == account).count() as u64
+    campaigns
+        .iter()
+        .filter(|row| row.account == account)
+        .count() as u64
 }
 
 /// How many lines the account has.
@@ -61,5 +62,8 @@ pub(crate) fn count_negatives(negatives: &[Negative], account: u64) -> u64
     ensures count { result ≡ count_by (λ n. n.account == account) negatives.now }
     ensures below { result < 2 ^ 63 }
 {
-    negatives.iter().filter(|row| row.account == account).count() as u64
+    negatives
+        .iter()
+        .filter(|row| row.account == account)
+        .count() as u64
 }

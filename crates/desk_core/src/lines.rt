@@ -21,7 +21,16 @@ use query_words::{Text, Twin};
 impl Ledger {
     /// Makes a line, which is on from the start.
     #[tactic(auto, unfolding(desk_types::specs::Step::accepted))]
-    pub(crate) fn add_line(&mut self, account: u64, key: &Text, campaign: u64, bid: u64, pattern: &Text, headline: &Text, link: &Text) -> Result<Reply, Stop>
+    pub(crate) fn add_line(
+        &mut self,
+        account: u64,
+        key: &Text,
+        campaign: u64,
+        bid: u64,
+        pattern: &Text,
+        headline: &Text,
+        link: &Text,
+    ) -> Result<Reply, Stop>
         requires { self.old.edition < 2 ^ 64 - 1 }
         ensures accepted { IfOk result (IsAccepted self.old (Call.AddLine account key.now campaign bid pattern.now headline.now link.now) self.new) }
         ensures stopped { IfErr result (IsStop self.old (Call.AddLine account key.now campaign bid pattern.now headline.now link.now)) }
@@ -36,7 +45,16 @@ impl Ledger {
 
     /// The row of a line that may be made, or why none is.
     #[tactic(auto, unfolding(desk_types::specs::Judged::refusals))]
-    fn new_line(&self, account: u64, key: &Text, campaign: u64, bid: u64, pattern: &Text, headline: &Text, link: &Text) -> Result<Line, Stop>
+    fn new_line(
+        &self,
+        account: u64,
+        key: &Text,
+        campaign: u64,
+        bid: u64,
+        pattern: &Text,
+        headline: &Text,
+        link: &Text,
+    ) -> Result<Line, Stop>
         ensures row { IfOk result (λ line. line ≡ record { account = account; number = lines_of self.now account + 1; campaign = campaign; pattern = trimmed pattern.now; headline = headline.now; link = link.now; bid = bid; quality = QUALITY_NEW; on = true }) }
         ensures accepted { OnOk result (judged self.now (Call.AddLine account key.now campaign bid pattern.now headline.now link.now) ≡ None) }
         ensures stopped { IfErr result (IsStop self.now (Call.AddLine account key.now campaign bid pattern.now headline.now link.now)) }
@@ -95,10 +113,15 @@ impl Ledger {
 }
 
 /// The line of the campaign with the same pattern, if there is one.
-fn same_line<'a>(lines: &'a [Line], account: u64, campaign: u64, pattern: &Pattern) -> Option<&'a Line>
+fn same_line<'a>(
+    lines: &'a [Line],
+    account: u64,
+    campaign: u64,
+    pattern: &Pattern,
+) -> Option<&'a Line>
     ensures { option_copied result ≡ find (is_line_like account campaign pattern.now) lines.now }
 {
-    lines
-        .iter()
-        .find(|row| row.account == account && row.campaign == campaign && row.pattern.is_same(pattern))
+    lines.iter().find(|row| row.account == account
+        && row.campaign == campaign
+        && row.pattern.is_same(pattern))
 }

@@ -34,7 +34,12 @@ impl Ledger {
 
     /// Drops a negative.
     #[tactic(auto, unfolding(desk_types::specs::Step::accepted))]
-    pub(crate) fn drop_negative(&mut self, account: u64, key: &Text, negative: u64) -> Result<Reply, Stop>
+    pub(crate) fn drop_negative(
+        &mut self,
+        account: u64,
+        key: &Text,
+        negative: u64,
+    ) -> Result<Reply, Stop>
         requires { self.old.edition < 2 ^ 64 - 1 }
         ensures accepted { IfOk result (IsAccepted self.old (Call.DropNegative account key.now negative) self.new) }
         ensures stopped { IfErr result (IsStop self.old (Call.DropNegative account key.now negative)) }
@@ -50,7 +55,13 @@ impl Ledger {
 
     /// The pattern of a negative that may be made, or why none is.
     #[tactic(auto, unfolding(desk_types::specs::Judged::refusals))]
-    fn judge_negative(&self, account: u64, key: &Text, campaign: u64, text: &Text) -> Result<Pattern, Stop>
+    fn judge_negative(
+        &self,
+        account: u64,
+        key: &Text,
+        campaign: u64,
+        text: &Text,
+    ) -> Result<Pattern, Stop>
         ensures pattern { IfOk result (λ pattern. pattern ≡ negative_text text.now) }
         ensures accepted { OnOk result (judged self.now (Call.AddNegative account key.now campaign text.now) ≡ None) }
         ensures stopped { IfErr result (IsStop self.now (Call.AddNegative account key.now campaign text.now)) }
@@ -80,14 +91,22 @@ impl Ledger {
 
     /// Makes a negative, or makes the dropped one of the same pattern live again.
     #[tactic(auto, unfolding(desk_types::specs::Step::accepted))]
-    pub(crate) fn add_negative(&mut self, account: u64, key: &Text, campaign: u64, pattern: &Text) -> Result<Reply, Stop>
+    pub(crate) fn add_negative(
+        &mut self,
+        account: u64,
+        key: &Text,
+        campaign: u64,
+        pattern: &Text,
+    ) -> Result<Reply, Stop>
         requires { self.old.edition < 2 ^ 64 - 1 }
         ensures accepted { IfOk result (IsAccepted self.old (Call.AddNegative account key.now campaign pattern.now) self.new) }
         ensures stopped { IfErr result (IsStop self.old (Call.AddNegative account key.now campaign pattern.now)) }
         ensures same { OnErr result (self.new ≡ self.old) }
     {
         let pattern = self.judge_negative(account, key, campaign, pattern)?;
-        let dropped = dropped_negative(&self.negatives, account, campaign, &pattern).map(|row| row.number);
+        let dropped = dropped_negative(&self.negatives, account, campaign, &pattern).map(
+            |row| row.number,
+        );
         if let Some(number) = dropped {
             set_live(&mut self.negatives, account, number, true);
             self.edition += 1;
@@ -110,20 +129,36 @@ impl Ledger {
 }
 
 /// The live negative of the campaign with the same pattern, if there is one.
-fn live_negative<'a>(negatives: &'a [Negative], account: u64, campaign: u64, pattern: &Pattern) -> Option<&'a Negative>
+fn live_negative<'a>(
+    negatives: &'a [Negative],
+    account: u64,
+    campaign: u64,
+    pattern: &Pattern,
+) -> Option<&'a Negative>
     ensures { option_copied result ≡ find (is_live_like account campaign pattern.now) negatives.now }
 {
     negatives.iter().find(|row| {
-        row.account == account && row.campaign == campaign && row.live && row.pattern.is_same(pattern)
+        row.account == account
+            && row.campaign == campaign
+            && row.live
+            && row.pattern.is_same(pattern)
     })
 }
 
 /// The dropped negative of the campaign with the same pattern, if there is one.
-fn dropped_negative<'a>(negatives: &'a [Negative], account: u64, campaign: u64, pattern: &Pattern) -> Option<&'a Negative>
+fn dropped_negative<'a>(
+    negatives: &'a [Negative],
+    account: u64,
+    campaign: u64,
+    pattern: &Pattern,
+) -> Option<&'a Negative>
     ensures { option_copied result ≡ find (is_dropped_like account campaign pattern.now) negatives.now }
 {
     negatives.iter().find(|row| {
-        row.account == account && row.campaign == campaign && !row.live && row.pattern.is_same(pattern)
+        row.account == account
+            && row.campaign == campaign
+            && !row.live
+            && row.pattern.is_same(pattern)
     })
 }
 

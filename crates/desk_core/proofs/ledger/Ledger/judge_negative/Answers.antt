@@ -1,4 +1,4 @@
-use Rattle.std.proofs.Common.{◌∙◌, sym, None, Some}
+use Rattle.std.proofs.Common.{None, Some}
 use Rattle.desk_core.proofs.NegativeLemmas.{negative_judged}
 use Rattle.desk_core.proofs.ledger.Ledger.judge_negative.Goals as goal
 

@@ -1,4 +1,4 @@
-use Rattle.std.proofs.Common.{Some, rules, sym}
+use Rattle.std.proofs.Common.{Some, rules}
 use Rattle.desk_core.proofs.LineLemmas.{line_judged, line_refused_early}
 use Rattle.desk_core.proofs.ledger.Ledger.new_line.Goals as goal
 

@@ -1,4 +1,4 @@
 pub mod Ends
-pub mod Patterning
+pub mod PatternStop
 pub mod Sound
 pub mod TableParts

@@ -75,6 +75,8 @@ impl Ledger {
     }
 
     /// Makes an account.
+    ///
+    /// It fails where the call is refused, and for want of memory; the rows are then as they were.
     #[tactic(auto, unfolding(desk_types::specs::Step::accepted))]
     pub(crate) fn add_account(&mut self, key: &Text) -> Result<Reply, Stop>
         requires { self.old.edition < 2 ^ 64 - 1 }
@@ -97,6 +99,8 @@ impl Ledger {
     }
 
     /// Makes a campaign, which is on from the start, with the budget of its first day.
+    ///
+    /// It fails where the call is refused, and for want of memory; the rows are then as they were.
     #[tactic(auto, unfolding(desk_types::specs::Step::accepted))]
     pub(crate) fn add_campaign(
         &mut self,

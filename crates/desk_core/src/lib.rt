@@ -7,7 +7,6 @@ mod finds;
 mod ledger;
 mod lines;
 mod negatives;
-mod patterns;
 mod stop;
 
 pub use ledger::Ledger;

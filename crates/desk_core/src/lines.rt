@@ -20,6 +20,8 @@ use query_words::{Text, Twin};
 
 impl Ledger {
     /// Makes a line, which is on from the start.
+    ///
+    /// It fails where the call is refused, and for want of memory; the rows are then as they were.
     #[tactic(auto, unfolding(desk_types::specs::Step::accepted))]
     pub(crate) fn add_line(
         &mut self,

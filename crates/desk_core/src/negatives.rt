@@ -1,6 +1,6 @@
 //! The making and dropping of negatives.
 
-ghost use Rattle.std.specs.Prelude.{◌≡◌, ◌<◌, ◌-◌, ◌^◌, None, find, map, option_copied, IfOk, IfErr, OnErr, OnOk};
+ghost use Rattle.std.specs.Prelude.{◌≡◌, ◌≢◌, ◌<◌, ◌-◌, ◌^◌, None, find, map, option_copied, IfOk, IfErr, OnErr, OnOk};
 ghost use Rattle.match_types.specs.Pattern.{negative_text};
 ghost use Rattle.desk_types.specs.declared.call.Call.{Call};
 ghost use Rattle.desk_types.specs.Judged.{first, judged};
@@ -32,7 +32,7 @@ impl Ledger {
         None
     }
 
-    /// Drops a negative.
+    /// Drops a negative. It takes no memory, and fails only where the call is refused.
     #[tactic(auto, unfolding(desk_types::specs::Step::accepted))]
     pub(crate) fn drop_negative(
         &mut self,
@@ -43,6 +43,7 @@ impl Ledger {
         requires { self.old.edition < 2 ^ 64 - 1 }
         ensures accepted { IfOk result (IsAccepted self.old (Call.DropNegative account key.now negative) self.new) }
         ensures stopped { IfErr result (IsStop self.old (Call.DropNegative account key.now negative)) }
+        ensures no_memory { IfErr result (λ stop. stop ≢ Stop.NoMemory) }
         ensures same { OnErr result (self.new ≡ self.old) }
     {
         if let Some(refusal) = self.judge_drop(account, key, negative) {
@@ -90,6 +91,8 @@ impl Ledger {
     }
 
     /// Makes a negative, or makes the dropped one of the same pattern live again.
+    ///
+    /// It fails where the call is refused, and for want of memory; the rows are then as they were.
     #[tactic(auto, unfolding(desk_types::specs::Step::accepted))]
     pub(crate) fn add_negative(
         &mut self,

@@ -1,4 +1,4 @@
--- Why a text that is no pattern stops a call.
+-- How the cause for which a text is no pattern stops a call.
 use Rattle.match_types.specs.declared.reading.PatternError.{PatternError}
 use Rattle.match_types.specs.declared.reading.PatternError.TheVariants as cause
 use Rattle.desk_types.specs.declared.refusal.Refusal.TheVariants.{BadPattern}

@@ -1,11 +1,13 @@
 pub mod Charges
 pub mod Desks
-pub mod Finds
+pub mod FindLemmas
 pub mod Journals
-pub mod Mapped
+pub mod LineLemmas
 pub mod Moments
+pub mod NegativeLemmas
 pub mod Numbers
 pub mod Pages
 pub mod Placing
 pub mod Reached
 pub mod Searching
+pub mod Tables

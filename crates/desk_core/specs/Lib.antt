@@ -2,6 +2,8 @@ pub mod Charges
 pub mod DeskValue
 pub mod Ends
 pub mod JournalValue
+pub mod PatternStop
 pub mod Shown
 pub mod SoloValue
 pub mod Sound
+pub mod TableParts

@@ -51,20 +51,16 @@ impl Ledger {
 fn settle(placements: &mut [Placement], moment: u64, placement: u64)
     ensures { placements.new ≡ map (clicked moment placement) placements.old }
 {
-    for index in 0..placements.len() {
-        placements[index] = clicked(moment, placement, placements[index]);
+    for row in placements.iter_mut() {
+        settle_row(row, moment, placement);
     }
 }
 
-/// A placement after a click on the one of this number.
-fn clicked(moment: u64, placement: u64, row: Placement) -> Placement
-    ensures { result ≡ clicked moment placement row }
+/// The same of one row.
+fn settle_row(row: &mut Placement, moment: u64, placement: u64)
+    ensures { row.new ≡ clicked moment placement row.old }
 {
-    if row.number == placement && is_held(&row, moment) {
-        return Placement {
-            fate: Fate::Settled(moment),
-            ..row
-        };
+    if row.number == placement && is_held(row, moment) {
+        row.fate = Fate::Settled(moment);
     }
-    row
 }

@@ -1,6 +1,6 @@
 //! The rows of a desk, its moment and its edition.
 
-ghost use Rattle.std.specs.Prelude.{◌≡◌, ◌<◌, ◌-◌, ◌^◌, ℕ, IfErr, IfOk, IsOk, OnErr, OnOk};
+ghost use Rattle.std.specs.Prelude.{◌≡◌, ◌≢◌, ◌<◌, ◌-◌, ◌^◌, ℕ, IfErr, IfOk, IsOk, OnErr, OnOk};
 ghost use Rattle.desk_types.specs.declared.call.Call.{Call};
 ghost use Rattle.desk_types.specs.Judged.{judged};
 ghost use Rattle.desk_types.specs.State.{empty};
@@ -96,14 +96,44 @@ impl Ledger {
         }
     }
 
-    /// Puts what an accepted call puts, and replies. A click is not asked for here.
+    /// Puts what an accepted call of the catalogue or a search puts, and replies.
     fn accept(&mut self, call: &Call) -> Result<Reply, Stop>
         requires sound { IsSound self.old }
         requires edition { self.old.edition < 2 ^ 64 - 1 }
+        requires other { (placement : ℕ) → call.now ≢ Call.Click placement }
         ensures accepted { IfOk result (IsAccepted self.old call.now self.new) }
         ensures stopped { IfErr result (IsStop self.old call.now) }
         ensures same { OnErr result (self.new ≡ self.old) }
     {
-        Err(Stop::NoMemory)
+        match call {
+            Call::AddAccount { key } => self.add_account(key),
+            Call::AddCampaign {
+                account,
+                key,
+                budget,
+            } => self.add_campaign(*account, key, *budget),
+            Call::AddLine {
+                account,
+                key,
+                campaign,
+                bid,
+                pattern,
+                headline,
+                link,
+            } => self.add_line(*account, key, *campaign, *bid, pattern, headline, link),
+            Call::AddNegative {
+                account,
+                key,
+                campaign,
+                pattern,
+            } => self.add_negative(*account, key, *campaign, pattern),
+            Call::DropNegative {
+                account,
+                key,
+                negative,
+            } => self.drop_negative(*account, key, *negative),
+            Call::Search { text, places } => self.search(text, *places),
+            Call::Click { .. } => unreachable!(),
+        }
     }
 }

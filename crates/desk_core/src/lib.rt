@@ -4,13 +4,18 @@
 //! Where calls come from, and how they are read and answered, is left to the crates above.
 #![tactic(auto)]
 
+mod accounts;
 mod click;
 mod desk;
 mod eligible;
+mod fields;
+mod finds;
 mod journal;
 mod ledger;
+mod lines;
 mod lookup;
 mod money;
+mod negatives;
 mod search;
 mod showing;
 mod solo;

@@ -1,7 +1,6 @@
-use Rattle.std.proofs.Common.{◌≡◌}
+use Rattle.std.proofs.Common.{◌≡◌, ◌++◌, take, drop, map}
 use Rattle.desk_types.specs.Step.{clicked}
-use Rattle.desk_core.proofs.Mapped.{map_first}
 use Rattle.desk_core.proofs.click.settle.Given as goal
 
-abbrev pub invariant-loop-index : goal.invariant-loop-index
-invariant-loop-index l = l.placements ≡ map_first (clicked l.fn.moment l.fn.placement) l.index l.fn.placements
+abbrev pub invariant-loop-row : goal.invariant-loop-row
+invariant-loop-row l = l.placements ≡ map (clicked l.moment l.placement) (take l.row-index l.initial.placements) ++ drop l.row-index l.initial.placements

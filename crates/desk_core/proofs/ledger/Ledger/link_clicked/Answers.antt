@@ -3,7 +3,7 @@ use Rattle.std.specs.Option.{option_copied}
 use Rattle.desk_types.specs.declared.rows.Placement.{Placement}
 use Rattle.desk_types.specs.State.{placement_of}
 use Rattle.desk_core.specs.Sound.{HasLine}
-use Rattle.desk_core.proofs.Finds.{All-found}
+use Rattle.desk_core.proofs.FindLemmas.{All-found}
 use Rattle.desk_core.proofs.ledger.Ledger.link_clicked.Goals as goal
 
 pub line_there-line-requires : goal.line_there-line-requires

@@ -1,0 +1,54 @@
+//! The forms of keys and headlines.
+
+ghost use Rattle.std.specs.Prelude.{◌≡◌, ◌==◌, ◌&&◌, not, nat_le};
+ghost use Rattle.std.specs.List.{list_all};
+ghost use Rattle.desk_types.specs.Fields.{is_headline, is_key, is_visible};
+
+use desk_types::limits::{HEADLINE_BYTES_MAX, KEY_BYTES_MAX, KEY_BYTES_MIN};
+
+/// Whether a text is a key: 8 to 64 visible ASCII bytes.
+#[tactic(auto, unfolding(desk_types::specs::Fields::is_key))]
+pub(crate) fn is_key(text: &str) -> bool
+    ensures { result ≡ is_key text.now }
+{
+    let bytes = text.as_bytes();
+    let length = bytes.len() as u64;
+    if length < KEY_BYTES_MIN || length > KEY_BYTES_MAX {
+        return false;
+    }
+    are_visible(bytes)
+}
+
+/// Whether a text is a headline: 1 to 90 bytes, none of them a control character of ASCII.
+#[tactic(auto, unfolding(desk_types::specs::Fields::is_headline))]
+pub(crate) fn is_headline(text: &str) -> bool
+    ensures { result ≡ is_headline text.now }
+{
+    let bytes = text.as_bytes();
+    let length = bytes.len() as u64;
+    if length < 1 || length > HEADLINE_BYTES_MAX {
+        return false;
+    }
+    are_shown(bytes)
+}
+
+/// Whether each of the bytes is a visible ASCII character.
+fn are_visible(bytes: &[u8]) -> bool
+    ensures { result ≡ list_all is_visible bytes.now }
+{
+    bytes.iter().all(|byte| is_visible(*byte))
+}
+
+/// Whether a byte is a visible ASCII character.
+fn is_visible(byte: u8) -> bool
+    ensures { result ≡ is_visible byte }
+{
+    (0x21..=0x7E).contains(&byte)
+}
+
+/// Whether none of the bytes is a control character of ASCII.
+fn are_shown(bytes: &[u8]) -> bool
+    ensures { result ≡ list_all (λ byte. nat_le 0x20 byte && not (byte == 0x7F)) bytes.now }
+{
+    bytes.iter().all(|byte| *byte >= 0x20 && *byte != 0x7F)
+}

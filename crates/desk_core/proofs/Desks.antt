@@ -47,8 +47,8 @@ reached_more rows left before after caller moment call h room stepped same more 
     let more_fits : HasNoFault (before.entries ++ e ∷ []) = All-push (λ (x : Entry). x.outcome ≡ Answered) before.entries e h.no_fault refl in
     record {
       run_of_journal =
-        stepped ∙ ap (λ S. (step S moment call).state) h.run_of_journal ∙ sym (run_more (empty before.settings) caller before.entries moment call)
-        ∙ (λ i. run (empty (sym same i)) (sym more i));
+          stepped ∙ ap (λ S. (step S moment call).state) h.run_of_journal ∙ sym (run_more (empty before.settings) caller before.entries moment call)
+          ∙ (λ i. run (empty (sym same i)) (sym more i));
       legal = subst (λ s. IsLegal s after.entries) (sym same) (subst (λ es. IsLegal before.settings es) (sym more) (legal_answer before.settings before.entries caller moment call h.legal room));
       no_fault = subst HasNoFault (sym more) more_fits;
     }

@@ -10,9 +10,7 @@ ghost use Rattle.desk_core.specs.Sound.{IsSound};
 
 use crate::stop::Stop;
 use desk_types::limits::MOMENT_MAX;
-use desk_types::{
-    Account, BudgetSet, Call, Campaign, Line, Negative, Placement, Reply, Settings,
-};
+use desk_types::{Account, BudgetSet, Call, Campaign, Line, Negative, Placement, Reply, Settings};
 use std::alloc::{AllocError, Global};
 use std::marker::Model;
 

@@ -24,14 +24,23 @@ fn fill(
         let line = format!(in rt.alloc(); "{front}{number}{back} -> made {number}")?;
         check(rt, desk, line.as_str())?;
     }
-    let last = format!(in rt.alloc(); "{front}0{back} -> made {most}\n{front}9999{back} -> {full}")?;
+    let last = format!(in rt.alloc();
+        "{front}0{back} -> made {most}\n{front}9999{back} -> {full}"
+    )?;
     check(rt, desk, last.as_str())
 }
 
 #[test]
 fn a_desk_has_a_thousand_accounts(rt: HostRuntime) -> Result<(), Fail> {
     let mut desk = Desk::new(rt.alloc(), Settings::usual());
-    fill(&rt, &mut desk, 1_000, "1;account;secret0", "", "AccountsFull")
+    fill(
+        &rt,
+        &mut desk,
+        1_000,
+        "1;account;secret0",
+        "",
+        "AccountsFull",
+    )
 }
 
 #[test]

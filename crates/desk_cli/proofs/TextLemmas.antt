@@ -1,5 +1,5 @@
 -- Bytes that tell a heading or an ad are text.
-use Rattle.std.proofs.Common.{◌≡◌, ◌≢◌, ℕ, ◌<◌, List, [], ◌∷◌, ◌++◌, length, refl, sym, subst, arith, Bool, true, false, inl, inr}
+use Rattle.std.proofs.Common.{◌≡◌, ◌≢◌, ℕ, List, [], ◌∷◌, length, refl, sym, subst, arith, Bool, true, inl, inr}
 use Rattle.std.specs.Prelude.{Option, Some, None, codes, bytes_eq, ◌==◌, nat_lt, filter}
 use Rattle.std.specs.Bool.{Decides}
 use Rattle.std.specs.List.{AllByRecursion as All, list_all, slice_split, join_with_byte}
@@ -76,38 +76,27 @@ word_text word other text is =
     subst IsUtf8 (sym (tells.0 is)) text
 
 heading_told : (reserve floor places : Option ℕ) → heading_from reserve floor places ≢ None → (reserve ≢ None) × (floor ≢ None) × (places ≢ None)
-heading_told None floor places h = absurd (h refl)
-heading_told (Some r) None places h = absurd (h refl)
-heading_told (Some r) (Some f) None h = absurd (h refl)
 heading_told (Some r) (Some f) (Some p) h = (λ e. cc, λ e. cc, λ e. cc)
+heading_told _ _ _ h = absurd (h refl)
 
 heading_fields : (fields : List (List ℕ)) → heading_of_fields fields ≢ None → All IsUtf8 fields
-heading_fields [] h = absurd (h refl)
-heading_fields (a ∷ []) h = absurd (h refl)
-heading_fields (a ∷ b ∷ []) h = absurd (h refl)
-heading_fields (a ∷ b ∷ c ∷ []) h = absurd (h refl)
 heading_fields (word ∷ reserve ∷ floor ∷ places ∷ []) h = elim (cases_Bool (bytes_eq word (codes "auction"))) [
   | inl is ↦
       let told = heading_told (number_within BID_MIN BID_MAX reserve) (number_within 0 FLOOR_MAX floor) (number_within 1 PLACES_MAX places) (λ e. h (rw is e)) in
       (word_text word (codes "auction") (ascii_text (codes "auction") refl) is, (number_text _ _ reserve told.0, (number_text _ _ floor told.1, (number_text _ _ places told.2, tt))))
   | inr other ↦ absurd (h (rw other refl))
 ]
-heading_fields (a ∷ b ∷ c ∷ d ∷ e ∷ more) h = absurd (h refl)
+heading_fields _ h = absurd (h refl)
 
 name_told : (account campaign line : Option ℕ) → name_from account campaign line ≢ None → (account ≢ None) × (campaign ≢ None) × (line ≢ None)
-name_told None campaign line h = absurd (h refl)
-name_told (Some a) None line h = absurd (h refl)
-name_told (Some a) (Some c) None h = absurd (h refl)
 name_told (Some a) (Some c) (Some l) h = (λ e. cc, λ e. cc, λ e. cc)
+name_told _ _ _ h = absurd (h refl)
 
 name_parts : (parts : List (List ℕ)) → name_of_parts parts ≢ None → All IsUtf8 parts
-name_parts [] h = absurd (h refl)
-name_parts (a ∷ []) h = absurd (h refl)
-name_parts (a ∷ b ∷ []) h = absurd (h refl)
 name_parts (account ∷ campaign ∷ line ∷ []) h =
     let told = name_told (number_within 1 NUMBER_MAX account) (number_within 1 NUMBER_MAX campaign) (number_within 1 NUMBER_MAX line) h in
     (number_text _ _ account told.0, (number_text _ _ campaign told.1, (number_text _ _ line told.2, tt)))
-name_parts (a ∷ b ∷ c ∷ d ∷ more) h = absurd (h refl)
+name_parts _ h = absurd (h refl)
 
 name_text : (text : List ℕ) → name_in text ≢ None → IsUtf8 text
 unfolding name_in
@@ -115,25 +104,17 @@ name_text text h = parts_text text (name_parts (parts text) h)
 
 ad_told : (name : Option LineName) (bid quality free : Option ℕ) → ad_from name bid quality free ≢ None →
     (name ≢ None) × (bid ≢ None) × (quality ≢ None) × (free ≢ None)
-ad_told None bid quality free h = absurd (h refl)
-ad_told (Some n) None quality free h = absurd (h refl)
-ad_told (Some n) (Some b) None free h = absurd (h refl)
-ad_told (Some n) (Some b) (Some q) None h = absurd (h refl)
 ad_told (Some n) (Some b) (Some q) (Some f) h = (λ e. cc, λ e. cc, λ e. cc, λ e. cc)
+ad_told _ _ _ _ h = absurd (h refl)
 
 ad_fields : (fields : List (List ℕ)) → ad_of_fields fields ≢ None → All IsUtf8 fields
-ad_fields [] h = absurd (h refl)
-ad_fields (a ∷ []) h = absurd (h refl)
-ad_fields (a ∷ b ∷ []) h = absurd (h refl)
-ad_fields (a ∷ b ∷ c ∷ []) h = absurd (h refl)
-ad_fields (a ∷ b ∷ c ∷ d ∷ []) h = absurd (h refl)
 ad_fields (word ∷ name ∷ bid ∷ quality ∷ free ∷ []) h = elim (cases_Bool (bytes_eq word (codes "ad"))) [
   | inl is ↦
       let told = ad_told (name_in name) (number_within BID_MIN BID_MAX bid) (number_within QUALITY_MIN QUALITY_MAX quality) (number_within 0 FREE_MAX free) (λ e. h (rw is e)) in
       (word_text word (codes "ad") (ascii_text (codes "ad") refl) is, (name_text name told.0, (number_text _ _ bid told.1, (number_text _ _ quality told.2, (number_text _ _ free told.3, tt)))))
   | inr other ↦ absurd (h (rw other refl))
 ]
-ad_fields (a ∷ b ∷ c ∷ d ∷ e ∷ f ∷ more) h = absurd (h refl)
+ad_fields _ h = absurd (h refl)
 
 pub heading_of_no_text : (line : List ℕ) → ¬ (IsUtf8 line) → heading_in line ≡ None
 unfolding heading_in

@@ -15,13 +15,21 @@ fn check_refused(rt: &(impl Abort + AllocGlobal), words: &[&str]) -> Result<(), 
     Ok(())
 }
 
+/// Words that are not the one word `auction`.
+const OTHER_WORDS: [&[&str]; 5] = [
+    &[],
+    &[""],
+    &["auctions"],
+    &["Auction"],
+    &["auction", "auction"],
+];
+
 #[test]
 fn other_words_are_refused(rt: HostRuntime) -> Result<(), Fail> {
-    check_refused(&rt, &[])?;
-    check_refused(&rt, &[""])?;
-    check_refused(&rt, &["auctions"])?;
-    check_refused(&rt, &["Auction"])?;
-    check_refused(&rt, &["auction", "auction"])
+    for words in OTHER_WORDS {
+        check_refused(&rt, words)?;
+    }
+    Ok(())
 }
 
 const AUCTION: &[u8] = b"auction 5 0 2\nad 1.1.1 100 10 1000\nad 2.1.1 80 10 1000\n";
@@ -46,12 +54,15 @@ fn check_reads(rt: &(impl Abort + AllocGlobal), cut: u64, reads: u64) -> Result<
     check_way(rt, "no read more", AUCTION, way, 0, PAGE)
 }
 
+/// The size of the pieces, and the number of reads of the auction.
+const READS: [(u64, u64); 4] = [(1, 56), (2, 29), (3, 20), (4_096, 2)];
+
 #[test]
 fn a_read_that_fails_is_told_alone(rt: HostRuntime) -> Result<(), Fail> {
-    check_reads(&rt, 1, 56)?;
-    check_reads(&rt, 2, 29)?;
-    check_reads(&rt, 3, 20)?;
-    check_reads(&rt, 4_096, 2)
+    for (cut, reads) in READS {
+        check_reads(&rt, cut, reads)?;
+    }
+    Ok(())
 }
 
 /// Checks each of so many writes, in pieces of a size, as the one that fails, and that there are no more.
@@ -75,10 +86,13 @@ fn check_writes(rt: &(impl Abort + AllocGlobal), cut: u64, writes: u64) -> Resul
     check_way(rt, "no write more", AUCTION, way, 0, PAGE)
 }
 
+/// The size of the pieces, and the number of writes of the page.
+const WRITES: [(u64, u64); 4] = [(1, 25), (2, 13), (3, 9), (4_096, 1)];
+
 #[test]
 fn a_write_that_fails_leaves_a_beginning(rt: HostRuntime) -> Result<(), Fail> {
-    check_writes(&rt, 1, 25)?;
-    check_writes(&rt, 2, 13)?;
-    check_writes(&rt, 3, 9)?;
-    check_writes(&rt, 4_096, 1)
+    for (cut, writes) in WRITES {
+        check_writes(&rt, cut, writes)?;
+    }
+    Ok(())
 }

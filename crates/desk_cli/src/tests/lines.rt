@@ -227,7 +227,16 @@ fn lines_end_and_part_in_several_ways(rt: HostRuntime) -> Result<(), Fail> {
     check_each(&rt, &IN_FORM)
 }
 
-/// A heading, then so many lines that are passed over, of one byte each, and an end.
+/// What stands behind a heading: so many lines, or a line of so many bytes, that are passed over,
+/// and an end.
+struct Behind {
+    count: usize,
+    end: &'static [u8],
+    status: u8,
+    output: &'static [u8],
+}
+
+/// A heading, then so many lines `#` and an end.
 fn lines_of_comments(alloc: Global, count: usize, end: &[u8]) -> Result<Vec<u8>, AllocError> {
     let mut bytes = Vec::from_slice(alloc, b"auction 5 0 1\n")?;
     for _ in 0..count {
@@ -249,33 +258,83 @@ fn check_lines(
     check_way(rt, "many lines", input.as_slice(), WHOLE, status, output)
 }
 
+/// Auctions of about a million lines.
+const MANY_LINES: [Behind; 3] = [
+    Behind {
+        count: 999_999,
+        end: b"",
+        status: 0,
+        output: b"end\n",
+    },
+    Behind {
+        count: 999_998,
+        end: b"x\n",
+        status: 8,
+        output: b"bad line 1000000\n",
+    },
+    Behind {
+        count: 1_000_000,
+        end: b"",
+        status: 9,
+        output: b"too many lines\n",
+    },
+];
+
 #[test]
 fn a_million_lines_are_the_most(rt: HostRuntime) -> Result<(), Fail> {
+    for case in &MANY_LINES {
+        check_lines(&rt, case.count, case.end, case.status, case.output)?;
+    }
     let long = vec![in rt.alloc(); b'x'; 5_000]?;
-    check_lines(&rt, 999_999, b"", 0, b"end\n")?;
-    check_lines(&rt, 999_998, b"x\n", 8, b"bad line 1000000\n")?;
-    check_lines(&rt, 1_000_000, b"", 9, b"too many lines\n")?;
     check_lines(&rt, 999_999, long.as_slice(), 9, b"too many lines\n")
 }
 
-/// Checks how a comment of so many bytes and an end behind a heading are answered.
-fn check_comment(
-    rt: &(impl Abort + AllocGlobal),
-    length: usize,
-    end: &[u8],
-    status: u8,
-    output: &[u8],
-) -> Result<(), Fail> {
+/// Checks how a line of so many bytes and an end behind a heading are answered.
+fn check_comment(rt: &(impl Abort + AllocGlobal), case: &Behind) -> Result<(), Fail> {
     let mut input = Vec::from_slice(rt.alloc(), b"auction 5 0 1\n")?;
-    input.extend_from_slice(vec![in rt.alloc(); b'#'; length]?.as_slice())?;
-    input.extend_from_slice(end)?;
-    check(rt, "a long line", input.as_slice(), status, output)
+    input.extend_from_slice(vec![in rt.alloc(); b'#'; case.count]?.as_slice())?;
+    input.extend_from_slice(case.end)?;
+    check(
+        rt,
+        "a long line",
+        input.as_slice(),
+        case.status,
+        case.output,
+    )
 }
+
+/// Auctions with a line of about 4,096 bytes.
+const LONG_LINES: [Behind; 4] = [
+    Behind {
+        count: 4_096,
+        end: b"\n",
+        status: 0,
+        output: b"end\n",
+    },
+    Behind {
+        count: 4_097,
+        end: b"\n",
+        status: 9,
+        output: b"long line 2\n",
+    },
+    Behind {
+        count: 4_096,
+        end: b"\r\n",
+        status: 9,
+        output: b"long line 2\n",
+    },
+    Behind {
+        count: 5_000,
+        end: b"\nx\n",
+        status: 9,
+        output: b"long line 2\n",
+    },
+];
 
 #[test]
 fn a_line_has_at_most_4096_bytes(rt: HostRuntime) -> Result<(), Fail> {
-    check_comment(&rt, 4_096, b"\n", 0, b"end\n")?;
-    check_comment(&rt, 4_097, b"\n", 9, b"long line 2\n")?;
-    check_comment(&rt, 4_096, b"\r\n", 9, b"long line 2\n")?;
-    check_comment(&rt, 5_000, b"\nx\n", 9, b"long line 2\n")
+    for case in &LONG_LINES {
+        check_comment(&rt, case)?;
+    }
+    Ok(())
 }

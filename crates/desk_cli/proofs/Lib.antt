@@ -1,5 +1,5 @@
-pub mod NumberLemmas
-pub mod FieldLemmas
+pub mod PartLemmas
+pub mod TextLemmas
 pub mod FormLemmas
 pub mod Run
 pub mod Turns

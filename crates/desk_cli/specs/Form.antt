@@ -1,21 +1,18 @@
 -- The forms of an auction's lines.
-use Rattle.std.specs.Prelude.{ℕ, Bool, true, ◌==◌, ◌||◌, nat_lt, ◌-◌, if◌then◌else◌, List, [], ◌∷◌, length, slice_index, Option, Some, None, filter, codes, bytes_eq}
+use Rattle.std.specs.Prelude.{ℕ, Bool, true, ◌==◌, ◌||◌, ◌-◌, if◌then◌else◌, List, [], ◌∷◌, length, slice_index, Option, Some, None, codes, bytes_eq}
 use Rattle.std.specs.List.{slice_split}
 use Rattle.desk_types.specs.declared.limits.TheConstants.{BID_MIN, BID_MAX, QUALITY_MIN, QUALITY_MAX, FLOOR_MAX, PLACES_MAX}
 use Rattle.desk_cli.specs.declared.limits.TheConstants.{NUMBER_MAX, FREE_MAX}
 use Rattle.desk_cli.specs.HeadingValue.{HeadingValue}
 use Rattle.desk_cli.specs.declared.form.LineName.{LineName}
 use Rattle.desk_cli.specs.declared.form.AdLine.{AdLine}
-use Rattle.desk_cli.specs.Number.{number_within}
+use Rattle.script_api.specs.Fields.{fields}
+use Rattle.script_api.specs.Number.{number_within}
 
 -- whether a line is passed over: it is empty or begins with `#`
 abbrev pub is_skipped : List ℕ → Bool
 is_skipped [] = true
 is_skipped (byte ∷ more) = byte == 35
-
--- the fields of a line, which one or more spaces part
-unfoldable pub fields : List ℕ → List (List ℕ)
-fields line = filter (λ field. nat_lt 0 (length field)) (slice_split (λ byte. byte == 32) line)
 
 -- whether a space stands at an end of the line
 unfoldable pub has_outer_space : List ℕ → Bool

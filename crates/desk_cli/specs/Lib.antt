@@ -1,5 +1,4 @@
 pub mod HeadingValue
-pub mod Number
 pub mod Form
 pub mod Meets
 pub mod Told

@@ -3,14 +3,15 @@
 ghost use Rattle.std.specs.Prelude.{◌≡◌, IfSome};
 ghost use Rattle.desk_types.specs.AdValue.{IsBid, IsQuality};
 ghost use Rattle.desk_cli.specs.HeadingValue.{IsFloor, IsPlaces};
-ghost use Rattle.desk_cli.specs.Form.{ad_from, ad_in, heading_from, heading_in, is_skipped as skips, name_from, name_in};
+ghost use Rattle.desk_cli.specs.Form.{ad_from, ad_in, has_outer_space as has_space_outside, heading_from, heading_in, is_skipped as skips, name_from, name_in};
 
-use crate::fields::{five_fields, four_fields, has_outer_space, three_parts};
 use crate::heading::Heading;
 use crate::limits::{FREE_MAX, NUMBER_MAX};
-use crate::number::number_in;
+use crate::parts::three_parts;
 use desk_types::Ad;
 use desk_types::limits::{BID_MAX, BID_MIN, FLOOR_MAX, PLACES_MAX, QUALITY_MAX, QUALITY_MIN};
+use script_api::fields::{five_fields, four_fields};
+use script_api::number::number_in;
 
 /// The triple that names a line, each number 1 to 1,000,000.
 #[derive(Clone, Copy, Debug, PartialEq, Eq, Hash)]
@@ -51,21 +52,38 @@ pub fn is_skipped(line: &[u8]) -> bool
     }
 }
 
+/// Whether a space stands at an end of the line.
+#[tactic(auto, unfolding(crate::specs::Form::has_outer_space))]
+fn has_outer_space(line: &[u8]) -> bool
+    ensures { result ≡ has_space_outside line.now }
+{
+    if line.is_empty() {
+        return false;
+    }
+    if line[0] == b' ' {
+        return true;
+    }
+    line[line.len() - 1] == b' '
+}
+
 /// The heading that a line tells: `auction RESERVE FLOOR PLACES`, or `None` where it is in another form.
-#[tactic(auto, unfolding(crate::specs::Form::heading_in), using(crate::proofs::FormLemmas::no_heading))]
+#[tactic(auto, unfolding(crate::specs::Form::heading_in), using(crate::proofs::FormLemmas::no_heading, crate::proofs::TextLemmas::heading_of_no_text))]
 pub fn heading_of(line: &[u8]) -> Option<Heading>
     ensures { result ≡ heading_in line.now }
 {
     if has_outer_space(line) {
         return None;
     }
-    let (word, reserve, floor, places) = four_fields(line)?;
-    if word != b"auction".as_slice() {
+    let Ok(text) = str::from_utf8(line) else {
+        return None;
+    };
+    let (word, reserve, floor, places) = four_fields(text)?;
+    if word != "auction" {
         return None;
     }
-    let reserve = number_in(reserve, BID_MIN, BID_MAX);
-    let floor = number_in(floor, 0, FLOOR_MAX);
-    let places = number_in(places, 1, PLACES_MAX);
+    let reserve = number_in(reserve.as_bytes(), BID_MIN, BID_MAX);
+    let floor = number_in(floor.as_bytes(), 0, FLOOR_MAX);
+    let places = number_in(places.as_bytes(), 1, PLACES_MAX);
     made_heading(reserve, floor, places)
 }
 
@@ -84,13 +102,13 @@ fn made_heading(reserve: Option<u64>, floor: Option<u64>, places: Option<u64>) -
 
 /// The name that a text tells: `ACCOUNT.CAMPAIGN.LINE`, or `None` where it is in another form.
 #[tactic(auto, unfolding(crate::specs::Form::name_in), using(crate::proofs::FormLemmas::no_name))]
-fn name_of(text: &[u8]) -> Option<LineName>
+fn name_of(text: &str) -> Option<LineName>
     ensures { result ≡ name_in text.now }
 {
     let (account, campaign, line) = three_parts(text)?;
-    let account = number_in(account, 1, NUMBER_MAX);
-    let campaign = number_in(campaign, 1, NUMBER_MAX);
-    let line = number_in(line, 1, NUMBER_MAX);
+    let account = number_in(account.as_bytes(), 1, NUMBER_MAX);
+    let campaign = number_in(campaign.as_bytes(), 1, NUMBER_MAX);
+    let line = number_in(line.as_bytes(), 1, NUMBER_MAX);
     made_name(account, campaign, line)
 }
 
@@ -109,21 +127,24 @@ fn made_name(account: Option<u64>, campaign: Option<u64>, line: Option<u64>) -> 
 }
 
 /// The ad that a line tells: `ad ACCOUNT.CAMPAIGN.LINE BID QUALITY FREE`, or `None` where it is in another form.
-#[tactic(auto, unfolding(crate::specs::Form::ad_in), using(crate::proofs::FormLemmas::no_ad))]
+#[tactic(auto, unfolding(crate::specs::Form::ad_in), using(crate::proofs::FormLemmas::no_ad, crate::proofs::TextLemmas::ad_of_no_text))]
 pub fn ad_of(line: &[u8]) -> Option<AdLine>
     ensures { result ≡ ad_in line.now }
 {
     if has_outer_space(line) {
         return None;
     }
-    let (word, name, bid, quality, free) = five_fields(line)?;
-    if word != b"ad".as_slice() {
+    let Ok(text) = str::from_utf8(line) else {
+        return None;
+    };
+    let (word, name, bid, quality, free) = five_fields(text)?;
+    if word != "ad" {
         return None;
     }
     let name = name_of(name);
-    let bid = number_in(bid, BID_MIN, BID_MAX);
-    let quality = number_in(quality, QUALITY_MIN, QUALITY_MAX);
-    let free = number_in(free, 0, FREE_MAX);
+    let bid = number_in(bid.as_bytes(), BID_MIN, BID_MAX);
+    let quality = number_in(quality.as_bytes(), QUALITY_MIN, QUALITY_MAX);
+    let free = number_in(free.as_bytes(), 0, FREE_MAX);
     made_ad(name, bid, quality, free)
 }
 

@@ -1,18 +1,17 @@
 //! The program `desk`: its words, its commands and their statuses.
 //! `desk_top` reads an auction and writes its page: the best ads at the least prices that keep their places.
-//! It stands on `desk_io`, `desk_types`, `gsp_price` and `rank_core`.
+//! It stands on `desk_io`, `desk_types`, `gsp_price`, `rank_core` and `script_api`.
 //! `main` makes the real input and output, and nothing else.
 #![tactic(auto)]
 
 mod answer;
 mod auction;
 mod fault;
-mod fields;
 mod form;
 mod heading;
 mod limits;
-mod number;
 mod page;
+mod parts;
 mod reading;
 mod top;
 

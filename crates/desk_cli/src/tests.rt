@@ -13,22 +13,38 @@ mod lines;
 /// The sizes of the pieces in which the input comes and the output goes.
 const CUTS: [u64; 4] = [1, 2, 3, 4_096];
 
+/// An auction, what it shows and how it is answered.
+struct Case {
+    shows: &'static str,
+    input: &'static [u8],
+    status: u8,
+    output: &'static [u8],
+}
+
+/// How a call goes: the size of the pieces, and the read and the write that fail, counted from 1;
+/// none fails where it is 0.
+#[derive(Clone, Copy)]
+struct Way {
+    cut: u64,
+    failing_read: u64,
+    failing_write: u64,
+}
+
+/// In whole pieces, with no fault.
+const WHOLE: Way = Way {
+    cut: 4_096,
+    failing_read: 0,
+    failing_write: 0,
+};
+
 /// What a call wrote, and its status.
+#[derive(Drop)]
 struct Told {
     status: u8,
     output: MemSink,
 }
 
-/// The bytes of a text in which `/` stands for a line feed.
-fn bytes_of(alloc: Global, text: &str) -> Result<Vec<u8>, AllocError> {
-    let mut bytes = Vec::with_capacity(alloc, text.len())?;
-    for byte in text.bytes() {
-        bytes.push(if byte == b'/' { b'\n' } else { byte })?;
-    }
-    Ok(bytes)
-}
-
-/// Numbers of calls that are to fail: one, or none where it is 0.
+/// The numbers of the calls that are to fail.
 fn failing(alloc: Global, number: u64) -> Result<Vec<u64>, AllocError> {
     let mut numbers = Vec::new(alloc);
     if number > 0 {
@@ -37,45 +53,78 @@ fn failing(alloc: Global, number: u64) -> Result<Vec<u64>, AllocError> {
     Ok(numbers)
 }
 
-/// Calls the program with one word on an input in memory.
-fn call(
-    alloc: Global,
-    word: &str,
-    input: Vec<u8>,
-    cut: u64,
-    failing_read: u64,
-    failing_write: u64,
-) -> Result<Told, AllocError> {
-    let cut = cut.max(1);
-    let mut words = Vec::new(alloc);
-    words.push(String::from_str(alloc, word)?)?;
-    let mut source = MemSource::new(input, cut, failing(alloc, failing_read)?);
-    let mut output = MemSink::new(alloc, 4_096, cut, failing(alloc, failing_write)?)?;
+/// The words as the program is given them.
+fn words_of(alloc: Global, words: &[&str]) -> Result<Vec<String>, AllocError> {
+    let mut owned = Vec::new(alloc);
+    for word in words {
+        owned.push(String::from_str(alloc, word)?)?;
+    }
+    Ok(owned)
+}
+
+/// Calls the program on an input in memory.
+fn call(alloc: Global, words: &[&str], input: &[u8], way: Way) -> Result<Told, AllocError> {
+    let cut = way.cut.max(1);
+    let words = words_of(alloc, words)?;
+    let input = Vec::from_slice(alloc, input)?;
+    let mut source = MemSource::new(input, cut, failing(alloc, way.failing_read)?);
+    let failing_writes = failing(alloc, way.failing_write)?;
+    let mut output = MemSink::new(alloc, 4_096, cut, failing_writes)?;
     let status = desk_top(alloc, &words, &mut source, &mut output);
     Ok(Told { status, output })
+}
+
+/// Checks what an auction is answered in one way.
+fn check_way(
+    rt: &(impl Abort + AllocGlobal),
+    shows: &str,
+    input: &[u8],
+    way: Way,
+    status: u8,
+    output: &[u8],
+) -> Result<(), Fail> {
+    let told = call(rt.alloc(), &["auction"], input, way)?;
+    let Way {
+        cut,
+        failing_read,
+        failing_write,
+    } = way;
+    assert_eq!(rt;
+        told.status,
+        status,
+        "{shows}: {cut}, {failing_read}, {failing_write}"
+    );
+    assert_eq!(rt;
+        told.output.bytes(),
+        output,
+        "{shows}: {cut}, {failing_read}, {failing_write}"
+    );
+    Ok(())
 }
 
 /// Checks that an auction is answered by a status and an output, in whatever pieces it comes.
 fn check(
     rt: &(impl Abort + AllocGlobal),
     shows: &str,
-    input: &str,
+    input: &[u8],
     status: u8,
-    output: &str,
+    output: &[u8],
 ) -> Result<(), Fail> {
-    let alloc = rt.alloc();
-    let wanted = bytes_of(alloc, output)?;
     for cut in CUTS {
-        let Told {
-            status: found,
-            output,
-        } = call(alloc, "auction", bytes_of(alloc, input)?, cut, 0, 0)?;
-        assert_eq!(rt; found, status, "{shows}, in pieces of {cut}");
-        assert_eq!(rt;
-            output.bytes(),
-            wanted.as_slice(),
-            "{shows}, in pieces of {cut}"
-        );
+        let way = Way {
+            cut,
+            failing_read: 0,
+            failing_write: 0,
+        };
+        check_way(rt, shows, input, way, status, output)?;
+    }
+    Ok(())
+}
+
+/// Checks each case of a table.
+fn check_each(rt: &(impl Abort + AllocGlobal), cases: &[Case]) -> Result<(), Fail> {
+    for case in cases {
+        check(rt, case.shows, case.input, case.status, case.output)?;
     }
     Ok(())
 }

@@ -2,112 +2,97 @@
 
 use super::*;
 
-#[test]
-fn other_words_are_refused(rt: HostRuntime) -> Result<(), Fail> {
-    let alloc = rt.alloc();
-    for word in ["", "auctions", "Auction", "--help", "script"] {
-        let Told { status, output } = call(
-            alloc,
-            word,
-            bytes_of(alloc, "auction 5 0 1/")?,
-            3,
-            0,
-            0,
-        )?;
-        assert_eq!(rt; status, 2, "{word}");
-        assert_eq!(rt; output.bytes(), b"words refused\n".as_slice(), "{word}");
-    }
-    let mut words = Vec::new(alloc);
-    let mut source = MemSource::new(Vec::new(alloc), 1, Vec::new(alloc));
-    let mut output = MemSink::new(alloc, 100, 1, Vec::new(alloc))?;
+/// Checks that words are refused.
+fn check_refused(rt: &(impl Abort + AllocGlobal), words: &[&str]) -> Result<(), Fail> {
+    let told = call(rt.alloc(), words, b"auction 5 0 1\n", WHOLE)?;
+    let count = words.len();
+    assert_eq!(rt; told.status, 2, "{count} words");
     assert_eq!(rt;
-        desk_top(alloc, &words, &mut source, &mut output),
-        2,
-        "no words"
-    );
-    words.push(String::from_str(alloc, "auction")?)?;
-    words.push(String::from_str(alloc, "auction")?)?;
-    assert_eq!(rt;
-        desk_top(alloc, &words, &mut source, &mut output),
-        2,
-        "two words"
+        told.output.bytes(),
+        b"words refused\n".as_slice(),
+        "{count} words"
     );
     Ok(())
 }
 
-const AUCTION: &str = "auction 5 0 2/ad 1.1.1 100 10 1000/ad 2.1.1 80 10 1000/";
+/// Words that are not the one word `auction`.
+const OTHER_WORDS: [&[&str]; 5] = [
+    &[],
+    &[""],
+    &["auctions"],
+    &["Auction"],
+    &["auction", "auction"],
+];
+
+#[test]
+fn other_words_are_refused(rt: HostRuntime) -> Result<(), Fail> {
+    for words in OTHER_WORDS {
+        check_refused(&rt, words)?;
+    }
+    Ok(())
+}
+
+const AUCTION: &[u8] = b"auction 5 0 2\nad 1.1.1 100 10 1000\nad 2.1.1 80 10 1000\n";
 
 const PAGE: &[u8] = b"1 1.1.1 80\n2 2.1.1 5\nend\n";
 
+/// Checks each of so many reads, in pieces of a size, as the one that fails, and that there are no more.
+fn check_reads(rt: &(impl Abort + AllocGlobal), cut: u64, reads: u64) -> Result<(), Fail> {
+    for failing_read in 1..=reads {
+        let way = Way {
+            cut,
+            failing_read,
+            failing_write: 0,
+        };
+        check_way(rt, "a read", AUCTION, way, 3, b"read fault\n")?;
+    }
+    let way = Way {
+        cut,
+        failing_read: reads.saturating_add(1),
+        failing_write: 0,
+    };
+    check_way(rt, "no read more", AUCTION, way, 0, PAGE)
+}
+
+/// The size of the pieces, and the number of reads of the auction.
+const READS: [(u64, u64); 4] = [(1, 56), (2, 29), (3, 20), (4_096, 2)];
+
 #[test]
 fn a_read_that_fails_is_told_alone(rt: HostRuntime) -> Result<(), Fail> {
-    let alloc = rt.alloc();
-    for (cut, reads) in [(1, 56), (2, 29), (3, 20), (4_096, 2)] {
-        for failing_read in 1..reads + 1 {
-            let Told { status, output } = call(
-                alloc,
-                "auction",
-                bytes_of(alloc, AUCTION)?,
-                cut,
-                failing_read,
-                0,
-            )?;
-            assert_eq!(rt; status, 3, "read {failing_read} of pieces of {cut}");
-            assert_eq!(rt;
-                output.bytes(),
-                b"read fault\n".as_slice(),
-                "read {failing_read} of pieces of {cut}"
-            );
-        }
-        let Told { status, output } = call(
-            alloc,
-            "auction",
-            bytes_of(alloc, AUCTION)?,
-            cut,
-            reads + 1,
-            0,
-        )?;
-        assert_eq!(rt; status, 0, "pieces of {cut}");
-        assert_eq!(rt; output.bytes(), PAGE, "pieces of {cut}");
+    for (cut, reads) in READS {
+        check_reads(&rt, cut, reads)?;
     }
     Ok(())
 }
 
+/// Checks each of so many writes, in pieces of a size, as the one that fails, and that there are no more.
+fn check_writes(rt: &(impl Abort + AllocGlobal), cut: u64, writes: u64) -> Result<(), Fail> {
+    let mut sent: usize = 0;
+    for failing_write in 1..=writes {
+        let way = Way {
+            cut,
+            failing_read: 0,
+            failing_write,
+        };
+        let beginning = PAGE.split_at(sent.min(PAGE.len())).0;
+        check_way(rt, "a write", AUCTION, way, 4, beginning)?;
+        sent = sent.saturating_add(cut as usize);
+    }
+    let way = Way {
+        cut,
+        failing_read: 0,
+        failing_write: writes.saturating_add(1),
+    };
+    check_way(rt, "no write more", AUCTION, way, 0, PAGE)
+}
+
+/// The size of the pieces, and the number of writes of the page.
+const WRITES: [(u64, u64); 4] = [(1, 25), (2, 13), (3, 9), (4_096, 1)];
+
 #[test]
 fn a_write_that_fails_leaves_a_beginning(rt: HostRuntime) -> Result<(), Fail> {
-    let alloc = rt.alloc();
-    for (cut, writes) in [(1, 25), (2, 13), (3, 9), (4_096, 1)] {
-        for failing_write in 1..writes + 1 {
-            let Told { status, output } = call(
-                alloc,
-                "auction",
-                bytes_of(alloc, AUCTION)?,
-                cut,
-                0,
-                failing_write,
-            )?;
-            assert_eq!(rt; status, 4, "write {failing_write} of pieces of {cut}");
-            let sent = (failing_write - 1) * cut;
-            assert_eq!(rt;
-                output.bytes().len() as u64,
-                sent,
-                "write {failing_write} of pieces of {cut}"
-            );
-            assert!(rt;
-                PAGE.starts_with(output.bytes()),
-                "write {failing_write} of pieces of {cut}"
-            );
-        }
-        let Told { status, output } = call(
-            alloc,
-            "auction",
-            bytes_of(alloc, AUCTION)?,
-            cut,
-            0,
-            writes + 1,
-        )?;
-        assert_eq!(rt; status, 0, "pieces of {cut}");
-        assert_eq!(rt; output.bytes(), PAGE, "pieces of {cut}");
+    for (cut, writes) in WRITES {
+        check_writes(&rt, cut, writes)?;
     }
     Ok(())
 }

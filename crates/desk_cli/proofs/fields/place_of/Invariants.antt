@@ -1,7 +1,0 @@
-use Rattle.std.proofs.Common.{ℕ, ◌<◌, get_or}
-use Rattle.std.specs.Prelude.{◌≢◌}
-use Rattle.desk_cli.proofs.fields.place_of.Given as goal
-
--- no byte before this place is the one that is sought
-abbrev pub invariant-loop-place : goal.invariant-loop-place
-invariant-loop-place l = (k : ℕ) → k < l.place → get_or l.text k 0 ≢ l.byte

@@ -1,5 +1,5 @@
 -- What holds of each state that a desk reaches from a state without rows.
-use Rattle.std.proofs.Common.{◌≡◌, ℕ, ◌+◌, ◌≤◌, Option, None, Some, List, [], ◌∷◌, length, is_some, refl, ◌∙◌, arith}
+use Rattle.std.proofs.Common.{◌≡◌, ℕ, ◌+◌, ◌≤◌, Option, None, Some, List, [], ◌∷◌, length, refl, ◌∙◌, arith}
 use Rattle.desk_types.specs.declared.limits.TheConstants.{MOMENT_MAX}
 use Rattle.desk_types.specs.declared.call.Call.{Call}
 use Rattle.desk_types.specs.declared.call.Call.TheVariants.{AddAccount, AddCampaign, AddLine, AddNegative, DropNegative, Search, Click}
@@ -9,13 +9,12 @@ use Rattle.desk_types.specs.declared.entry.Outcome.TheVariants.{Answered, Faulte
 use Rattle.desk_types.specs.declared.refusal.Refusal.{Refusal}
 use Rattle.desk_types.specs.declared.rows.Line.{Line}
 use Rattle.desk_types.specs.declared.rows.Negative.{Negative}
-use Rattle.desk_types.specs.declared.rows.Placement.{Placement}
 use Rattle.desk_types.specs.AdValue.{IsInRange}
 use Rattle.desk_types.specs.Eligible.{ad_of}
 use Rattle.desk_types.specs.Judged.{judged, dropped_negative}
 use Rattle.desk_types.specs.Run.{after, run}
 use Rattle.desk_types.specs.SettingsValue.{SettingsValue}
-use Rattle.desk_types.specs.State.{State, empty, line_of}
+use Rattle.desk_types.specs.State.{State, empty}
 use Rattle.desk_types.specs.Step.{accepted, answered, at_moment, negative_made, step}
 use Rattle.desk_types.proofs.EachRow.{All-from_Each}
 use Rattle.desk_types.proofs.LaterClicks.{kept_run}

@@ -1,4 +1,4 @@
-use Rattle.std.proofs.Common.{◌≡◌, false, None, Ok, MatchOption, sym, subst, ap, ◌∙◌, arith}
+use Rattle.std.proofs.Common.{◌≡◌, false, Ok, subst, ap, ◌∙◌, arith}
 use Rattle.desk_types.specs.declared.entry.Outcome.TheVariants.{Answered}
 use Rattle.desk_types.specs.Journal.{is_full}
 use Rattle.desk_types.specs.Serving.{with_entry}

@@ -1,10 +1,3 @@
-use Rattle.std.proofs.Common.{◌≡◌, [], refl, sym, subst, ◌∙◌, ap}
-use Rattle.std.proofs.lemmas.List.Elements.{All-nil}
-use Rattle.desk_types.specs.declared.entry.Entry.{Entry}
-use Rattle.desk_types.specs.declared.entry.Outcome.TheVariants.{Answered}
-use Rattle.desk_types.specs.Run.{run}
-use Rattle.desk_types.specs.State.{empty}
-use Rattle.desk_types.proofs.Legality.{legal_empty}
 use Rattle.desk_core.proofs.Desks.{reached_first}
 use Rattle.desk_core.proofs.desk.Desk.new.Goals as goal
 

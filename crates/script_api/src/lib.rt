@@ -4,17 +4,24 @@
 //! Cutting input into lines, serving the calls and writing the lines out are left to the crates above.
 #![tactic(auto)]
 
+mod answers;
 mod bar;
 mod call;
 mod command;
+mod ending;
 pub mod fields;
+pub mod limits;
 mod line;
 pub mod number;
 mod other;
 mod reply_line;
+mod run;
+mod serving;
 
+pub use ending::ScriptEnd;
 pub use line::{ScriptLine, read_line};
 pub use reply_line::write_answer;
+pub use run::script;
 
 #[cfg(test)]
 mod tests;

@@ -9,3 +9,4 @@ pub mod Telling
 pub mod Turning
 pub mod Making
 pub mod Looping
+pub mod Finishing

@@ -56,26 +56,26 @@ tells me opening seen seen' number line w w' t t' waiting waiting' going moment 
   puts = subst (λ more. ArePut w w' t t' (waiting ++ more) waiting' going) (sym (append-nil (answer_line answer))) put;
 }
 
--- turns that end before a line is read: a write failed, or there is no line that may be
-pub turn-broken : (me : ℕ) (opening : State) (seen : List Entry) (before : ℕ) (whole now : Option (List ℕ)) (held : List ℕ) (w w' : Option (List ℕ)) (t t' : Option ℕ) (waiting waiting' : List ℕ) →
-    IsLegal opening.settings seen → IsBroken w w' t t' waiting → IsTurn me opening seen seen before whole now held w w' t t' waiting waiting' (Err WriteFault)
-turn-broken me opening seen before whole now held w w' t t' waiting waiting' legal broken = record {
+-- turns without a call: a write failed before a line was read, there is no line that may be, or the end stands behind the last one
+pub turn-no_call : (me : ℕ) (opening : State) (seen : List Entry) (before : ℕ) (whole now : Option (List ℕ)) (held : List ℕ) (w w' : Option (List ℕ)) (t t' : Option ℕ) (waiting waiting' : List ℕ) (going : Going) →
+    IsLegal opening.settings seen → Takes before whole now held [] going → ArePut w w' t t' waiting waiting' going → IsTurn me opening seen seen before whole now held w w' t t' waiting waiting' going
+turn-no_call me opening seen before whole now held w w' t t' waiting waiting' going legal takes put = record {
   calls = [];
   results = [];
   served = Served-none me opening seen legal;
-  takes = takes-broken before whole now held;
-  puts = ArePut-nothing w w' t t' waiting waiting' (Err WriteFault) broken;
+  takes = takes;
+  puts = ArePut-nothing w w' t t' waiting waiting' going put;
 }
+
+pub turn-broken : (me : ℕ) (opening : State) (seen : List Entry) (before : ℕ) (whole now : Option (List ℕ)) (held : List ℕ) (w w' : Option (List ℕ)) (t t' : Option ℕ) (waiting waiting' : List ℕ) →
+    IsLegal opening.settings seen → IsBroken w w' t t' waiting → IsTurn me opening seen seen before whole now held w w' t t' waiting waiting' (Err WriteFault)
+turn-broken me opening seen before whole now held w w' t t' waiting waiting' legal broken =
+    turn-no_call me opening seen before whole now held w w' t t' waiting waiting' (Err WriteFault) legal (takes-broken before whole now held) broken
 
 pub turn-unread : (me : ℕ) (opening : State) (seen : List Entry) (before : ℕ) (whole now : Option (List ℕ)) (reader : ReaderValue) (w w' : Option (List ℕ)) (t t' : Option ℕ) (waiting waiting' : List ℕ) (reads reads' : ℕ) (ending : ScriptEnd) →
     IsLegal opening.settings seen → ReadsLine before whole now reader (Err ending) → IsPut w w' t t' waiting waiting' → EndCause reads reads' 0 0 ending → IsTurn me opening seen seen before whole now reader.held w w' t t' waiting waiting' (Err ending)
-turn-unread me opening seen before whole now reader w w' t t' waiting waiting' reads reads' ending legal reads_line put cause = record {
-  calls = [];
-  results = [];
-  served = Served-none me opening seen legal;
-  takes = reads_line;
-  puts = ArePut-nothing w w' t t' waiting waiting' (Err ending) (ArePut-other w w' t t' waiting waiting' reads reads' ending cause put);
-}
+turn-unread me opening seen before whole now reader w w' t t' waiting waiting' reads reads' ending legal reads_line put cause =
+    turn-no_call me opening seen before whole now reader.held w w' t t' waiting waiting' (Err ending) legal reads_line (ArePut-other w w' t t' waiting waiting' reads reads' ending cause put)
 
 -- the call of a line that is made, by the number of the line
 numbered : (number : ℕ) (line : ScriptLine) (calls : List (ℕ × Call)) (going : Going) → 1 ≤ number → MakesCall number line calls going → MakesCall (number - 1 + 1) line calls going

@@ -1,11 +1,14 @@
 -- Where the first line feed stands in a list, in a part of it, and in a longer one.
-use Rattle.std.proofs.Common.{◌≡◌, ℕ, ◌+◌, ◌-◌, ◌<◌, ◌≤◌, true, false, not, List, ◌++◌, length, drop, get_or, Some, None, sym, ap, ◌∙◌, ⊎_elim, length-drop, get_or-drop, arith}
+use Rattle.std.proofs.Common.{◌≡◌, ℕ, ◌+◌, ◌-◌, ◌<◌, ◌≤◌, true, false, not, List, [], ◌++◌, length, drop, get_or, Option, Some, None, IfSome, sym, ap, ◌∙◌, ⊎_elim, length-drop, get_or-drop, append-nil, arith}
+use Rattle.std.specs.Prelude.{◌||◌, Bool, is_some}
 use Rattle.std.specs.List.{position_or_len}
+use Rattle.std.specs.Option.{option_map}
 use Rattle.std.proofs.lemmas.Bool.{cases_lt, eq-eqb, ne_eqb, cond-true, cond-false, false_from_ne_true}
-use Rattle.std.proofs.lemmas.List.Folds.{prefix_len-append}
+use Rattle.std.proofs.lemmas.List.Elements.{All-from_get_or}
+use Rattle.std.proofs.lemmas.List.Folds.{prefix_len-append, list_any_none, list_any_at, list_any-append}
 use Rattle.std.proofs.lemmas.List.Sums.{prefix_len-le-length, fails_before_first, passes_at_first, position_or_len_is}
 use Rattle.memchr.specs.Find.{IsFirstByte, is_byte}
-use Rattle.desk_io.specs.Lines.{is_line_feed}
+use Rattle.desk_io.specs.Lines.{is_line_feed, has_line_feed}
 
 pub feed-within : (bytes : List ℕ) → position_or_len is_line_feed bytes ≤ length bytes
 feed-within bytes = prefix_len-le-length (λ byte. not (is_line_feed byte)) bytes
@@ -61,3 +64,24 @@ feed_later bytes more = ⊎_elim
     prefix_len-append (λ byte. not (is_line_feed byte)) bytes more ∙ cond-true _ _ _ (eq-eqb (position_or_len is_line_feed bytes) (length bytes) all) in
     omega arith)
     (cases_lt (position_or_len is_line_feed bytes) (length bytes))
+
+-- where the first line feed stands says whether there is one
+pub has_feed-none : (bytes : List ℕ) → length bytes ≤ position_or_len is_line_feed bytes → has_line_feed bytes ≡ false
+has_feed-none bytes none = list_any_none is_line_feed bytes (All-from_get_or (λ (byte : ℕ). is_line_feed byte ≡ false) bytes 0 (λ k below. fails_before_first is_line_feed bytes k 0 (omega arith)))
+
+pub has_feed-some : (bytes : List ℕ) → position_or_len is_line_feed bytes < length bytes → has_line_feed bytes ≡ true
+has_feed-some bytes found = list_any_at is_line_feed bytes (position_or_len is_line_feed bytes) 0 found (passes_at_first is_line_feed bytes 0 found)
+
+-- whether a search for the byte found one
+pub has_feed-found : (bytes : List ℕ) (found : Option ℕ) → IsFirstByte (is_byte 10) bytes found → is_some found ≡ has_line_feed bytes
+has_feed-found bytes (Some place) is = let at = feed_found bytes place is in sym (has_feed-some bytes (omega (arith, is.0.high)))
+has_feed-found bytes None is = sym (has_feed-none bytes (omega (arith, feed_none bytes is)))
+
+-- a line that a line feed among the bytes held ended, and one that the end of the source ended
+pub ended_by_feed : (held : List ℕ) (left : Option (List ℕ)) (ended : Bool) → position_or_len is_line_feed held < length held → ended ≡ true → IfSome (option_map (λ bytes. held ++ bytes) left) (λ bytes. ended ≡ has_line_feed bytes)
+ended_by_feed held None ended found is = tt
+ended_by_feed held (Some bytes) ended found is = is ∙ sym (list_any-append is_line_feed held bytes ∙ ap (λ b. b || has_line_feed bytes) (has_feed-some held found))
+
+pub ended_by_end : (held : List ℕ) (left : Option (List ℕ)) (ended : Bool) → length held ≤ position_or_len is_line_feed held → IfSome left (λ bytes. bytes ≡ []) → ended ≡ false → IfSome (option_map (λ bytes. held ++ bytes) left) (λ bytes. ended ≡ has_line_feed bytes)
+ended_by_end held None ended none end is = tt
+ended_by_end held (Some bytes) ended none end is = is ∙ sym (ap (λ rest. has_line_feed (held ++ rest)) end ∙ ap has_line_feed (append-nil held) ∙ has_feed-none held none)

@@ -1,17 +1,18 @@
 -- What a reader answers, by what it holds and what the source has left.
-use Rattle.std.proofs.Common.{◌≡◌, ℕ, ◌+◌, ◌<◌, ◌≤◌, List, [], ◌++◌, length, take, drop, Option, Some, None, IfSome, refl, sym, ap, subst, ◌∙◌, ⊎_elim, append-nil, append_assoc, length-append, length-take-le, arith}
+use Rattle.std.proofs.Common.{◌≡◌, ℕ, ◌+◌, ◌<◌, ◌≤◌, false, List, [], ◌++◌, length, take, drop, Option, Some, None, IfSome, refl, sym, ap, subst, ◌∙◌, ⊎_elim, append-nil, append_assoc, length-append, length-take-le, arith}
 use Rattle.std.specs.List.{position_or_len}
 use Rattle.std.specs.Option.{option_map}
 use Rattle.std.proofs.lemmas.Bool.{cases_lt}
 use Rattle.std.proofs.lemmas.List.{take-append-le, drop-append-le}
 use Rattle.desk_io.specs.Lines.{Line, is_line_feed, without_return, ended_line, last_line, first_line, after_first_line}
-use Rattle.desk_io.specs.NextLine.{GivesLine, TakesRest}
+use Rattle.desk_io.specs.NextLine.{GivesLine, EndsLine, TakesRest}
+use Rattle.desk_io.specs.Reader.{ReaderValue}
 use Rattle.desk_io.specs.WindowValue.{Fills}
 use Rattle.desk_io.specs.declared.line_reader.LineGot.{LineGot}
 use Rattle.desk_io.specs.declared.line_reader.LineGot.TheVariants.{Line as GotLine, End, TooLong, ReadFault}
 use Rattle.desk_io.specs.declared.source.Got.TheVariants.{Bytes}
 use Rattle.desk_io.proofs.LineLaws.{first_line-ended, first_line-last, after_first_line-last}
-use Rattle.desk_io.proofs.LineFeeds.{feed-within, feed_in_front, feed_later}
+use Rattle.desk_io.proofs.LineFeeds.{feed-within, feed_in_front, feed_later, ended_by_end}
 
 -- the size of the first line is how many bytes stand before the first line feed
 first_line-size : (bytes : List ℕ) → (first_line bytes).size ≡ position_or_len is_line_feed bytes
@@ -103,6 +104,13 @@ gives_rest max held left left_now held_now text got takes same end none short te
     unread End takes = gives_end max held left held_now text end takes rest_is
     unread TooLong takes = absurd takes
     unread ReadFault takes = absurd takes
+
+-- bytes held at the end of the source are a line that no line feed ended
+pub ends_rest : (held : List ℕ) (left : Option (List ℕ)) (got : LineGot) (reader : ReaderValue) → TakesRest held got → IfSome left (λ bytes. bytes ≡ []) → length held ≤ position_or_len is_line_feed held → reader.is_ended ≡ false → EndsLine (behind held left) got reader
+ends_rest held left GotLine reader takes end none ended = ended_by_end held left reader.is_ended none end ended
+ends_rest held left End reader takes end none ended = tt
+ends_rest held left TooLong reader takes end none ended = tt
+ends_rest held left ReadFault reader takes end none ended = absurd takes
 
 -- the same bytes are ahead under another name
 pub from_start : (max_was max : ℕ) (was before after : Option (List ℕ)) (got : LineGot) (text : List ℕ) → max ≡ max_was → before ≡ was → GivesLine max before after got text → GivesLine max_was was after got text

@@ -1,6 +1,6 @@
 -- The lines of some bytes.
 use Rattle.std.specs.Prelude.{ℕ, ◌+◌, ◌-◌, Bool, ◌==◌, nat_lt, if◌then◌else◌, List, [], ◌∷◌, length, take, drop, slice_index}
-use Rattle.std.specs.List.{position_or_len, slice_split}
+use Rattle.std.specs.List.{position_or_len, list_any, slice_split}
 
 -- a line: its text, and how many bytes stood before its line feed or the end
 pub record Line : Type 0 where
@@ -9,6 +9,10 @@ pub record Line : Type 0 where
 
 abbrev pub is_line_feed : ℕ → Bool
 is_line_feed byte = byte == 10
+
+-- whether a line feed stands among the bytes
+abbrev pub has_line_feed : List ℕ → Bool
+has_line_feed bytes = list_any is_line_feed bytes
 
 -- the bytes without the one carriage return at their end, if it is there
 unfoldable pub without_return : List ℕ → List ℕ

@@ -1,8 +1,8 @@
 -- What a reader of lines answers.
-use Rattle.std.specs.Prelude.{◌≡◌, ℕ, ◌<◌, ◌≤◌, List, [], ◌++◌, length, Option, IfSome}
+use Rattle.std.specs.Prelude.{◌≡◌, ℕ, ◌<◌, ◌≤◌, false, List, [], ◌++◌, length, Option, IfSome}
 use Rattle.std.specs.Option.{option_map}
 use Rattle.desk_io.specs.Faults.{Rose}
-use Rattle.desk_io.specs.Lines.{first_line, after_first_line}
+use Rattle.desk_io.specs.Lines.{has_line_feed, first_line, after_first_line}
 use Rattle.desk_io.specs.Reader.{ReaderValue}
 use Rattle.desk_io.specs.declared.line_reader.LineGot.{LineGot}
 use Rattle.desk_io.specs.declared.line_reader.LineGot.TheVariants.{Line as GotLine, End, TooLong, ReadFault}
@@ -44,3 +44,10 @@ TakesRest held GotLine = 0 < length held
 TakesRest held End = held ≡ []
 TakesRest held TooLong = ⊥
 TakesRest held ReadFault = ⊥
+
+-- a line is ended by a line feed exactly where one stood ahead; a fault comes where none stands among the bytes held
+abbrev pub EndsLine : Option (List ℕ) → LineGot → ReaderValue → Type 0
+EndsLine before GotLine reader = IfSome before (λ bytes. reader.is_ended ≡ has_line_feed bytes)
+EndsLine before End reader = Unit {0}
+EndsLine before TooLong reader = Unit {0}
+EndsLine before ReadFault reader = has_line_feed reader.held ≡ false

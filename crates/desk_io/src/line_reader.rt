@@ -1,9 +1,9 @@
 //! Lines of bytes, however the source cuts them.
 
-ghost use Rattle.std.specs.Prelude.{◌≡◌, ◌+◌, ◌<◌, ◌≤◌, [], length, take, drop, IfOk};
+ghost use Rattle.std.specs.Prelude.{◌≡◌, ◌+◌, ◌<◌, ◌≤◌, true, false, [], length, take, drop, IfOk};
 ghost use Rattle.std.specs.List.{position_or_len};
-ghost use Rattle.desk_io.specs.Lines.{is_line_feed, without_return};
-ghost use Rattle.desk_io.specs.NextLine.{ahead, GivesLine, LineCause, LineFits, TakesRest};
+ghost use Rattle.desk_io.specs.Lines.{is_line_feed, has_line_feed, without_return};
+ghost use Rattle.desk_io.specs.NextLine.{ahead, EndsLine, GivesLine, LineCause, LineFits, TakesRest};
 ghost use Rattle.desk_io.specs.Reading.{ReadCause};
 ghost use Rattle.desk_io.specs.WindowValue.{Fills};
 
@@ -36,6 +36,7 @@ pub enum LineGot {
 pub struct LineReader {
     max: u64,
     searched: usize,
+    is_ended: bool,
     window: Window,
 }
 
@@ -48,7 +49,7 @@ impl Model for LineReader {
 
     ghost Value = { ReaderValue };
 
-    ghost view = { λ r. record { max = r.max; held = r.window.held; line = r.window.line } };
+    ghost view = { λ r. record { max = r.max; held = r.window.held; line = r.window.line; is_ended = r.is_ended } };
 
     // no line feed stands among the bytes that were searched
     ghost invariant = { λ r. (r.window.size ≡ r.max + BLOCK) × (r.searched ≤ position_or_len is_line_feed r.window.held) };
@@ -57,7 +58,7 @@ impl Model for LineReader {
 impl LineReader {
     /// A reader of lines of at most `max` bytes. It takes all its memory here.
     pub fn new(alloc: Global, max: u64) -> Result<LineReader, NoMemory>
-        ensures { IfOk result (λ reader. reader ≡ record { max = max; held = []; line = [] }) }
+        ensures { IfOk result (λ reader. reader ≡ record { max = max; held = []; line = []; is_ended = false }) }
     {
         let size = match (max as usize).checked_add(BLOCK) {
             Some(size) => size,
@@ -66,6 +67,7 @@ impl LineReader {
         Ok(LineReader {
             max,
             searched: 0,
+            is_ended: false,
             window: Window::new(alloc, size)?,
         })
     }
@@ -77,6 +79,7 @@ impl LineReader {
         ensures max { self.new.max ≡ self.old.max }
         ensures lines { GivesLine self.old.max (ahead self.old (S.left source.old)) (ahead self.new (S.left source.new)) result self.new.line }
         ensures fits { LineFits self.old.max result self.new.line }
+        ensures ended { EndsLine (ahead self.old (S.left source.old)) result self.new }
         ensures faults { S.read_faults source.old ≤ S.read_faults source.new }
         ensures cause { LineCause (S.read_faults source.old) (S.read_faults source.new) result }
     {
@@ -103,6 +106,20 @@ impl LineReader {
         ensures { result.now ≡ self.now.line }
     {
         self.window.line()
+    }
+
+    /// Whether a line feed ended the last line. The line that the end of the source ended is the last of all.
+    pub fn is_ended(&self) -> bool
+        ensures { result ≡ self.now.is_ended }
+    {
+        self.is_ended
+    }
+
+    /// Whether a whole line is held, so that the next one comes without a read.
+    pub fn has_line(&self) -> bool
+        ensures { result ≡ has_line_feed self.now.held }
+    {
+        memchr(b'\n', self.window.held()).is_some()
     }
 
     fn max(&self) -> u64
@@ -139,10 +156,12 @@ impl LineReader {
         ensures max { self.new.max ≡ self.old.max }
         ensures line { self.new.line ≡ without_return (take size self.old.held) }
         ensures held { self.new.held ≡ drop (size + 1) self.old.held }
+        ensures ended { self.new.is_ended ≡ true }
     {
         let text = len_without_return(self.window.held().split_at(size).0);
         self.window.cut(text, size + 1);
         self.searched = 0;
+        self.is_ended = true;
     }
 
     // Takes all the bytes held as the last line, if there are any.
@@ -150,11 +169,13 @@ impl LineReader {
         ensures max { self.new.max ≡ self.old.max }
         ensures line { self.new.line ≡ self.old.held }
         ensures held { self.new.held ≡ [] }
+        ensures ended { self.new.is_ended ≡ false }
         ensures answer { TakesRest self.old.held result }
     {
         let size = self.window.held().len();
         self.window.cut(size, size);
         self.searched = 0;
+        self.is_ended = false;
         if size == 0 {
             LineGot::End
         } else {

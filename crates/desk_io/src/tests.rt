@@ -180,6 +180,24 @@ fn a_failed_read_is_told_and_loses_nothing(rt: HostRuntime) -> Result<(), Fail> 
     Ok(())
 }
 
+#[test]
+fn a_reader_tells_what_it_holds_and_what_ended_a_line(rt: HostRuntime) -> Result<(), Fail> {
+    let alloc = rt.alloc();
+    let mut source = MemSource::new(b"a\nbc\nd".to_vec(alloc)?, 4, Vec::new(alloc));
+    let mut reader = LineReader::new(alloc, 4)?;
+    assert!(rt; !reader.has_line(), "nothing is read");
+    assert_eq!(rt; reader.next(&mut source), LineGot::Line);
+    assert!(rt; reader.is_ended() && !reader.has_line(), "`bc` is held");
+    assert_eq!(rt; reader.next(&mut source), LineGot::Line);
+    assert!(rt; reader.is_ended() && !reader.has_line(), "`d` is held");
+    assert_eq!(rt; reader.next(&mut source), LineGot::Line);
+    assert!(rt; !reader.is_ended(), "the end ended `d`");
+    let mut source = MemSource::new(b"a\nb\n".to_vec(alloc)?, 4, Vec::new(alloc));
+    assert_eq!(rt; reader.next(&mut source), LineGot::Line);
+    assert!(rt; reader.has_line(), "`b` and its line feed are held");
+    Ok(())
+}
+
 // Puts the piece so many times, flushes, and says whether there was no fault.
 fn put_all(
     alloc: Global,

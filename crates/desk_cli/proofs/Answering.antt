@@ -96,3 +96,21 @@ pub one-word : {Z : Type 0} (words : List Z) (shown : Z → List ℕ) (word : Z)
 one-word [] shown word bytes text r one is same tested = absurd (omega arith)
 one-word (w ∷ []) shown word bytes text r one is same tested = rw (ap shown (sym is) ∙ sym same) (word-is bytes text r tested)
 one-word (w ∷ v ∷ more) shown word bytes text r one is same tested = absurd (omega arith)
+
+-- a call that says an outcome with a status other than 0 answers another status too
+pub written-not_0 : (w u : Option (List ℕ)) (t r : Option ℕ) (faults faults_now : ℕ) (outcome : Outcome) (status : ℕ) → outcome.status ≢ 0 → IsWritten w u t r faults faults_now outcome status → status ≢ 0
+written-not_0 w u t r faults faults_now outcome status other (inl (inl all)) = λ zero. other (sym all.answered ∙ zero)
+written-not_0 w u t r faults faults_now outcome status other (inl (inr cut)) = λ zero. omega (arith, cut.answered, zero)
+written-not_0 w u t r faults faults_now outcome status other (inr none) = λ zero. omega (arith, none.answered, zero)
+
+-- the text and the status of an answer that is known
+pub answer-is : {E : Type 0} (result : Result Answer E) (outcome : Outcome) → IfOk result (λ answer. string_bytes answer.text ≡ outcome.output) → IfOk result (λ answer. answer.status ≡ outcome.status)
+    → IfOk result (λ answer. (string_bytes answer.text ≡ outcome.output) × (answer.status ≡ outcome.status))
+answer-is (Ok answer) outcome text status = (text, status)
+answer-is (Err e) outcome text status = tt
+
+pub three-not_0 : 3 ≢ 0
+three-not_0 = λ e. omega (arith, e)
+
+pub eight-not_0 : 8 ≢ 0
+eight-not_0 = λ e. omega (arith, e)

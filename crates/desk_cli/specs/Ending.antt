@@ -26,20 +26,15 @@ ReadEndCause before now (Fault fault) = Unit {0}
 ReadEndCause before now ReadFault = Rose before now
 ReadEndCause before now NoMemory = Unit {0}
 
--- the words of the command are the one word `auction`
-abbrev pub AreAuctionWords : List (List ℕ) → Type 0
-AreAuctionWords words = words ≡ codes "auction" ∷ []
+-- the words are this one word
+abbrev pub AreWord : List ℕ → List (List ℕ) → Type 0
+AreWord word words = words ≡ word ∷ []
 
 abbrev pub refused_outcome : Outcome
 refused_outcome = record { output = codes "words refused\n"; status = 2 }
 
 abbrev pub read_fault_outcome : Outcome
 read_fault_outcome = record { output = codes "read fault\n"; status = 3 }
-
--- the words are refused
-pub record IsRefused (words : List (List ℕ)) (outcome : Outcome) : Type 0 where
-  pub words_are_others : ¬ (AreAuctionWords words)
-  pub is : outcome ≡ refused_outcome
 
 -- a read failed
 pub record IsReadFault (faults faults_now : ℕ) (outcome : Outcome) : Type 0 where
@@ -55,11 +50,6 @@ pub record IsJudged (left : Option (List ℕ)) (outcome : Outcome) : Type 0 wher
 -- the outcome of an auction, by its input
 abbrev pub IsAuctionOutcome : Option (List ℕ) → ℕ → ℕ → Outcome → Type 0
 IsAuctionOutcome left faults faults_now outcome = IsReadFault faults faults_now outcome ⊎ IsJudged left outcome
-
--- the outcome that a call is to have, by its words and its input
-abbrev pub IsOutcome : List (List ℕ) → Option (List ℕ) → ℕ → ℕ → Outcome → Type 0
-IsOutcome words left faults faults_now outcome =
-    IsRefused words outcome ⊎ (AreAuctionWords words × IsAuctionOutcome left faults faults_now outcome)
 
 -- all of the outcome is written, and its status answered
 pub record IsAllWritten (written written_now : Option (List ℕ)) (taken taken_now : Option ℕ) (outcome : Outcome) (status : ℕ) : Type 0 where

@@ -6,3 +6,5 @@ pub mod Judged
 pub mod Running
 pub mod Outcome
 pub mod Ending
+pub mod ScriptCall
+pub mod TopCall

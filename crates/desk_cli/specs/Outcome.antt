@@ -41,9 +41,12 @@ entrant_text auction ad =
 unfoldable pub page_text : AuctionValue → List ℕ
 page_text auction = flat_map (entrant_text auction) (page (entrants auction.ads) auction.heading.places) ++ codes "end\n"
 
+abbrev pub fault_outcome : AuctionFault → Outcome
+fault_outcome fault = record { output = fault_text fault; status = fault_status fault }
+
 abbrev pub outcome_of : Result AuctionValue AuctionFault → Outcome
 outcome_of (Ok auction) = record { output = page_text auction; status = 0 }
-outcome_of (Err fault) = record { output = fault_text fault; status = fault_status fault }
+outcome_of (Err fault) = fault_outcome fault
 
 -- the outcome of an input
 unfoldable pub auction : List ℕ → Outcome

@@ -1,6 +1,7 @@
 //! The program `desk`: its words, its commands and their statuses.
-//! `desk_top` reads an auction and writes its page: the best ads at the least prices that keep their places.
-//! It stands on `desk_io`, `desk_types`, `gsp_price`, `rank_core` and `script_api`.
+//! `desk_top` reads an auction and writes its page: the best ads at the least prices that keep their places; or it
+//! serves the calls of a script by one desk, whose answers are the ledger's.
+//! It stands on `desk_core` and `script_api`, and for auctions on `desk_io`, `gsp_price` and `rank_core`.
 //! `main` makes the real input and output, and nothing else.
 #![tactic(auto)]
 
@@ -13,6 +14,7 @@ mod limits;
 mod page;
 mod parts;
 mod reading;
+mod script;
 mod top;
 
 use desk_io::{StdSink, StdSource};
@@ -28,7 +30,8 @@ fn main(rt: HostRuntime) -> ExitCode {
     };
     let mut input = StdSource::new(rt.stdin());
     let mut output = StdSink::new(rt.stdout());
-    ExitCode::from(top::desk_top(rt.alloc(), &words, &mut input, &mut output))
+    let served = top::desk_top(rt.alloc(), &words, &mut input, &mut output);
+    ExitCode::from(served.status)
 }
 
 /// The words behind the program's name.

@@ -70,8 +70,11 @@ fn call(alloc: Global, words: &[&str], input: &[u8], way: Way) -> Result<Told, A
     let mut source = MemSource::new(input, cut, failing(alloc, way.failing_read)?);
     let failing_writes = failing(alloc, way.failing_write)?;
     let mut output = MemSink::new(alloc, 4_096, cut, failing_writes)?;
-    let status = desk_top(alloc, &words, &mut source, &mut output);
-    Ok(Told { status, output })
+    let served = desk_top(alloc, &words, &mut source, &mut output);
+    Ok(Told {
+        status: served.status,
+        output,
+    })
 }
 
 /// Checks what an auction is answered in one way.

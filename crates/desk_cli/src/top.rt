@@ -1,57 +1,80 @@
 //! The call that the program makes.
 
 ghost use Rattle.std.specs.Prelude.{◌≡◌, ◌≤◌, ◌↔◌, [], map, IsTrue, IfSome, IfOk, string_bytes};
-ghost use Rattle.desk_cli.specs.Ending.{AreAuctionWords, IsAuctionOutcome, IsOutcome, IsWritten};
+ghost use Rattle.desk_cli.specs.Ending.{AreWord, IsAuctionOutcome, IsWritten};
 ghost use Rattle.desk_cli.specs.Outcome.{Outcome};
+ghost use Rattle.desk_cli.specs.TopCall.{Ends};
 
 use crate::answer::{Answer, fault_answer, page_answer, read_fault_answer, say};
 use crate::auction::read_auction;
 use crate::fault::ReadEnd;
+use crate::script::{Served, serve_script};
 use desk_io::{Sink, Source};
 use std::alloc::{AllocError, Global};
 
-/// Runs the command that the words name, and answers the status of the process.
+/// Runs the command that the words name, and answers the status of the process with the desk that
+/// was served, where the command opens one.
 ///
-/// The one command is `auction`: it reads an auction from the input and writes its page, or a line
-/// that says why there is none.
+/// `auction` reads an auction from the input and writes its page, or a line that says why there is
+/// none. `script` reads a script, makes its calls on a new desk, and writes the line of each answer.
 ///
 /// | Status | Comes | Line written last |
 /// |---|---|---|
-/// | 0 | the input is an auction | - |
-/// | 2 | the words are not the one word `auction` | `words refused` |
+/// | 0 | the input is an auction, or a script that no line ends | - |
+/// | 2 | the words are neither the one word `auction` nor the one word `script` | `words refused` |
 /// | 3 | a read failed: the input's count of faults rose | `read fault` |
 /// | 4 | a write failed: the output's count of faults rose | - |
-/// | 5 | want of memory; nothing is written | - |
-/// | 8 | a line in no form, or the end before the heading | `bad line K` |
+/// | 5 | want of memory, other than in a call of the desk | - |
+/// | 8 | a line in no form, or the end before the heading of an auction | `bad line K` |
+/// | 8 | a line of a script whose command has no call yet | `not built K` |
 /// | 9 | a line of more than 4,096 bytes, or more than 1,000,000 lines or 10,000 ads | `long line K` or `too many lines` |
 pub fn desk_top<S: Source, T: Sink>(
     alloc: Global,
     words: &[String],
     input: &mut S,
     output: &mut T,
-) -> u8
-    ensures ended { (outcome : Outcome) × IsOutcome (map string_bytes words.now) (S.left input.old) (S.read_faults input.old) (S.read_faults input.new) outcome × IsWritten (T.written output.old) (T.written output.new) (T.taken output.old) (T.taken output.new) (T.write_faults output.old) (T.write_faults output.new) outcome result }
-    ensures all_read { result ≡ 0 → IfSome (S.left input.new) (λ bytes. bytes ≡ []) }
+) -> Served
+    ensures ended { Ends (map string_bytes words.now) (S.left input.old) (S.left input.new) (S.read_faults input.old) (S.read_faults input.new) (T.written output.old) (T.written output.new) (T.taken output.old) (T.taken output.new) (T.write_faults output.old) (T.write_faults output.new) result }
+    ensures all_read { result.status ≡ 0 → IfSome (S.left input.new) (λ bytes. bytes ≡ []) }
     ensures read_faults { S.read_faults input.old ≤ S.read_faults input.new }
     ensures write_faults { T.write_faults output.old ≤ T.write_faults output.new }
 {
-    if !are_auction(words) {
-        return say(alloc, output, "words refused\n", 2);
+    if are_word(words, "auction") {
+        let status = serve_auction(alloc, input, output);
+        return Served { status, desk: None };
     }
-    match auction_answer(alloc, input) {
-        Ok(answer) => say(alloc, output, answer.text.as_str(), answer.status),
-        Err(_) => 5,
+    if are_word(words, "script") {
+        let (status, desk) = serve_script(alloc, input, output);
+        return Served {
+            status,
+            desk: Some(desk),
+        };
     }
+    let status = say(alloc, output, "words refused\n", 2);
+    Served { status, desk: None }
 }
 
-/// Whether the words are the one word `auction`.
-fn are_auction(words: &[String]) -> bool
-    ensures { IsTrue result ↔ AreAuctionWords (map string_bytes words.now) }
+/// Whether the words are this one word.
+fn are_word(words: &[String], word: &str) -> bool
+    ensures { IsTrue result ↔ AreWord word.now (map string_bytes words.now) }
 {
     if words.len() != 1 {
         return false;
     }
-    words[0].as_str() == "auction"
+    words[0].as_str() == word
+}
+
+/// Reads an auction and writes its page, or why there is none.
+fn serve_auction<S: Source, T: Sink>(alloc: Global, input: &mut S, output: &mut T) -> u8
+    ensures ended { (outcome : Outcome) × IsAuctionOutcome (S.left input.old) (S.read_faults input.old) (S.read_faults input.new) outcome × IsWritten (T.written output.old) (T.written output.new) (T.taken output.old) (T.taken output.new) (T.write_faults output.old) (T.write_faults output.new) outcome result }
+    ensures all_read { result ≡ 0 → IfSome (S.left input.new) (λ bytes. bytes ≡ []) }
+    ensures read_faults { S.read_faults input.old ≤ S.read_faults input.new }
+    ensures write_faults { T.write_faults output.old ≤ T.write_faults output.new }
+{
+    match auction_answer(alloc, input) {
+        Ok(answer) => say(alloc, output, answer.text.as_str(), answer.status),
+        Err(_) => 5,
+    }
 }
 
 /// Reads an auction, and answers its page or why there is none.

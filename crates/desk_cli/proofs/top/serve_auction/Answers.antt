@@ -1,8 +1,8 @@
 use Rattle.std.proofs.Common.{refl, inr}
 use Rattle.desk_cli.proofs.Answering.{some_judged}
-use Rattle.desk_cli.proofs.top.desk_top.Goals as goal
+use Rattle.desk_cli.proofs.top.serve_auction.Goals as goal
 
 pub returns-in-Err-clause-ended : goal.returns-in-Err-clause-ended
 returns-in-Err-clause-ended g c =
     let judged = some_judged (g.S.Source.left c.args.input.now) in
-    (judged.0, inr (c.are_auction.ensures.0 c.if-not-are_auction.false, inr judged.1), inr (record { answered = refl; nothing_written = refl; nothing_taken = refl }))
+    (judged.0, inr judged.1, inr (record { answered = refl; nothing_written = refl; nothing_taken = refl }))

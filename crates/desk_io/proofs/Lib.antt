@@ -4,5 +4,6 @@ mod Sending
 pub mod LineLaws
 mod Filling
 mod LineFeeds
+pub mod LineCuts
 mod NextLines
 mod Returns

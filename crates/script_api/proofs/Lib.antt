@@ -4,3 +4,9 @@ pub mod FieldLemmas
 pub mod BarLemmas
 pub mod FormLemmas
 pub mod LineLemmas
+pub mod Putting
+pub mod Telling
+pub mod Turning
+pub mod Making
+pub mod Looping
+pub mod Finishing

@@ -6,3 +6,6 @@ pub mod CallForm
 pub mod OtherForm
 pub mod Script
 pub mod ReplyLine
+pub mod Told
+pub mod ScriptRun
+pub mod Turn

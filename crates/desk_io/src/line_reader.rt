@@ -74,7 +74,7 @@ impl LineReader {
 
     /// Reads the next line.
     ///
-    /// `End` comes exactly where no byte is left, and `TooLong` exactly where more than `max` bytes stand before the line feed or the end. Only a line is taken from what is ahead, so that the call may be made again after a fault.
+    /// `End` comes exactly where no byte is left, and `TooLong` exactly where more than `max` bytes stand before the line feed or the end. Only a line is taken from what is ahead, so that the call may be made again after a fault, which comes only where no whole line is held.
     pub fn next<S: Source>(&mut self, source: &mut S) -> LineGot
         ensures max { self.new.max ≡ self.old.max }
         ensures lines { GivesLine self.old.max (ahead self.old (S.left source.old)) (ahead self.new (S.left source.new)) result self.new.line }

@@ -1,9 +1,8 @@
 -- Fields, cut off one after another.
-use Rattle.std.proofs.Common.{◌≡◌, ◌≢◌, ℕ, ◌<◌, ◌≤◌, ◌+◌, List, [], ◌∷◌, length, take, take_all, drop, get_or, refl, sym, ◌∙◌, ap, arith, Bool, true, false, inl, inr, drop-cons}
+use Rattle.std.proofs.Common.{◌≡◌, ◌≢◌, ℕ, ◌<◌, ◌≤◌, ◌+◌, List, [], ◌∷◌, length, take, drop, get_or, refl, sym, ◌∙◌, ap, arith, Bool, false, inl, inr}
 use Rattle.std.specs.Prelude.{◌==◌, nat_lt, filter, slice_index}
 use Rattle.std.specs.List.{slice_split, position_or_len, before_first, after_first, All}
 use Rattle.std.proofs.lemmas.Bool.{cases_lt, cases_eq, eqb-true, lt-ltb, cond-true}
-use Rattle.std.proofs.lemmas.Grind.{common_steps}
 use Rattle.std.proofs.lemmas.List.{length-take-le, drop_all}
 use Rattle.std.proofs.lemmas.List.Elements.{All-from_get_or}
 use Rattle.std.proofs.lemmas.List.Splits.{slice_split_first, slice_split_none}

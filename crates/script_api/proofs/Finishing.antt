@@ -1,7 +1,6 @@
 -- The end of a script: what waits is written.
 use Rattle.std.proofs.Common.{◌≡◌, ◌≢◌, ℕ, ◌<◌, ◌^◌, inl, inr, List, [], ◌++◌, Option, Some, None, IfSome, refl, sym, ap, subst, ◌∙◌, append-nil}
 use Rattle.std.specs.Prelude.{Err, flat_map}
-use Rattle.std.specs.Option.{option_map}
 use Rattle.desk_types.specs.declared.call.Call.{Call}
 use Rattle.desk_types.specs.declared.entry.Entry.{Entry}
 use Rattle.desk_types.specs.Journal.{IsLegal}
@@ -16,7 +15,7 @@ use Rattle.script_api.specs.declared.ending.ScriptEnd.TheVariants.{Ended, BadLin
 use Rattle.script_api.specs.ReplyLine.{answer_line}
 use Rattle.script_api.specs.ScriptRun.{AreFirstOf, AreMade, AreWritten, IsRun}
 use Rattle.script_api.specs.Told.{ScriptValue, script_of}
-use Rattle.script_api.specs.Turn.{IsPut, IsBroken, ArePut, AreTurns, IsLeft, IsFlushed, IsCut, Finishes}
+use Rattle.script_api.specs.Turn.{IsPut, IsBroken, ArePut, AreTurns, Finishes}
 use Rattle.script_api.proofs.Turning.{first-none}
 
 -- however a script ended, the calls that were made are the first of its calls

@@ -1,5 +1,5 @@
 -- What a line is by its bytes.
-use Rattle.std.proofs.Common.{◌≡◌, ℕ, List, Bool, true, false, inl, inr, refl, ap, subst, IfOk}
+use Rattle.std.proofs.Common.{◌≡◌, ℕ, List, false, inl, inr, refl, IfOk}
 use Rattle.std.specs.Prelude.{◌==◌, slice_index, Result}
 use Rattle.std.specs.Str.{IsUtf8, is_utf8}
 use Rattle.std.proofs.lemmas.Bool.{cases_Bool}

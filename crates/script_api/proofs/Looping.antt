@@ -1,5 +1,5 @@
 -- The turns of a script, one after another.
-use Rattle.std.proofs.Common.{◌≡◌, ℕ, ◌+◌, ◌<◌, ◌≤◌, ◌^◌, inl, inr, List, [], ◌∷◌, ◌++◌, Option, Some, None, IfSome, refl, sym, ap, subst, ◌∙◌, append_assoc, append-nil}
+use Rattle.std.proofs.Common.{◌≡◌, ℕ, ◌+◌, ◌<◌, ◌^◌, inl, inr, List, [], ◌∷◌, ◌++◌, Option, Some, None, IfSome, refl, sym, ap, subst, ◌∙◌, append_assoc, append-nil}
 use Rattle.std.specs.Prelude.{Ok, Err, Result, flat_map}
 use Rattle.std.specs.Option.{option_map}
 use Rattle.std.proofs.lemmas.List.Concat.{flat_map-append}
@@ -11,18 +11,18 @@ use Rattle.desk_types.specs.Journal.{IsLegal}
 use Rattle.desk_types.specs.Serving.{Served}
 use Rattle.desk_types.specs.State.{State}
 use Rattle.desk_types.proofs.ServedInTurn.{Served-none, Served-append}
-use Rattle.desk_io.specs.Lines.{Line, has_line_feed, lines, first_line, after_first_line}
+use Rattle.desk_io.specs.Lines.{Line, lines, first_line, after_first_line}
 use Rattle.desk_io.specs.NextLine.{ahead}
 use Rattle.desk_io.specs.Reader.{ReaderValue}
-use Rattle.desk_io.proofs.LineCuts.{IsCut, cut-some}
+use Rattle.desk_io.proofs.LineCuts.{cut-some}
 use Rattle.script_api.specs.declared.ending.ScriptEnd.{ScriptEnd}
 use Rattle.script_api.specs.declared.ending.ScriptEnd.TheVariants.{Ended, BadLine, LongLine, TooManyLines, NotBuilt, ReadFault, WriteFault, NoMemory}
 use Rattle.script_api.specs.ReplyLine.{answer_line}
 use Rattle.script_api.specs.Script.{script_line}
 use Rattle.script_api.specs.ScriptRun.{AreFirstOf, AreMade, AreEnded, IsCutOff}
 use Rattle.script_api.specs.Told.{ScriptValue, calls_of, end_at, behind_calls, told_behind, script_of}
-use Rattle.script_api.specs.Turn.{Going, IsPut, ArePut, GoesOn, TakesNothing, EndsThere, Takes, IsTurn, AreTurns}
-use Rattle.script_api.proofs.Putting.{IsPut-same, IsPut-behind, ArePut-behind, ArePut-nothing}
+use Rattle.script_api.specs.Turn.{IsPut, ArePut, GoesOn, TakesNothing, Takes, IsTurn, AreTurns}
+use Rattle.script_api.proofs.Putting.{IsPut-same, IsPut-behind, ArePut-behind}
 use Rattle.script_api.proofs.Telling.{told-end, told-goes}
 
 behind-assoc : (calls more : List (ℕ × Call)) (script : ScriptValue) → behind_calls calls (behind_calls more script) ≡ behind_calls (calls ++ more) script
@@ -58,14 +58,14 @@ taken-line bytes rest now before calls more taken goes =
       whole = taken.whole ∙ ap (λ all. taken.part ++ all) (cut.whole ∙ sym (append_assoc front (10 ∷ []) (after_first_line rest))) ∙ sym (append_assoc taken.part (front ++ 10 ∷ []) (after_first_line rest));
       ended = inr (taken.part ++ front, sym (append_assoc taken.part front (10 ∷ [])));
       tells = λ behind.
-        let joined : (taken.part ++ (front ++ 10 ∷ [])) ++ behind ≡ taken.part ++ (front ++ 10 ∷ behind) =
+          let joined : (taken.part ++ (front ++ 10 ∷ [])) ++ behind ≡ taken.part ++ (front ++ 10 ∷ behind) =
           append_assoc taken.part (front ++ 10 ∷ []) behind ∙ ap (λ all. taken.part ++ all) (append_assoc front (10 ∷ []) behind) in
-        let line_goes : end_at before (first_line (front ++ 10 ∷ behind)) ≡ None = ap (end_at before) (cut.first behind) ∙ goes.goes in
-        let line_made : more ≡ calls_of (script_line (first_line (front ++ 10 ∷ behind)).text) = goes.made ∙ ap (λ (line : Line). calls_of (script_line line.text)) (sym (cut.first behind)) in
-        ap script_of joined ∙ taken.tells (front ++ 10 ∷ behind)
-        ∙ ap (behind_calls calls) (told-goes before (front ++ 10 ∷ behind) more (cut.some behind) line_goes line_made)
-        ∙ behind-assoc calls more (told_behind (before + 1) (lines (after_first_line (front ++ 10 ∷ behind))))
-        ∙ ap (λ left. behind_calls (calls ++ more) (told_behind (before + 1) (lines left))) (cut.rest behind);
+          let line_goes : end_at before (first_line (front ++ 10 ∷ behind)) ≡ None = ap (end_at before) (cut.first behind) ∙ goes.goes in
+          let line_made : more ≡ calls_of (script_line (first_line (front ++ 10 ∷ behind)).text) = goes.made ∙ ap (λ (line : Line). calls_of (script_line line.text)) (sym (cut.first behind)) in
+          ap script_of joined ∙ taken.tells (front ++ 10 ∷ behind)
+          ∙ ap (behind_calls calls) (told-goes before (front ++ 10 ∷ behind) more (cut.some behind) line_goes line_made)
+          ∙ behind-assoc calls more (told_behind (before + 1) (lines (after_first_line (front ++ 10 ∷ behind))))
+          ∙ ap (λ left. behind_calls (calls ++ more) (told_behind (before + 1) (lines left))) (cut.rest behind);
     }
 
 taken-turn : (whole rest now : Option (List ℕ)) (held : List ℕ) (before : ℕ) (calls more : List (ℕ × Call)) → AreTaken whole rest before calls → Takes before rest now held more (Ok tt) → AreTaken whole now (before + 1) (calls ++ more)
@@ -107,7 +107,7 @@ cut-off bytes rest reader left before calls more taken none = record {
   ended = taken.ended;
   no_feed = none.no_line;
   told = ap script_of (sym (append-nil taken.part)) ∙ taken.tells [] ∙ behind-ended calls more Ended (told_behind before (lines []))
-    (told-end before [] refl ∙ ap (λ (all : List (ℕ × Call)). let s : ScriptValue = record { calls = all; end = Ended } in s) (sym none.no_call));
+      (told-end before [] refl ∙ ap (λ (all : List (ℕ × Call)). let s : ScriptValue = record { calls = all; end = Ended } in s) (sym none.no_call));
 }
 
 cut-turn : (whole rest : Option (List ℕ)) (reader : ReaderValue) (left : Option (List ℕ)) (before : ℕ) (calls more : List (ℕ × Call)) (ending : ScriptEnd) → AreTaken whole rest before calls → Takes before rest (ahead reader left) reader.held more (Err ending) → ending ≡ ReadFault → IfSome whole (λ bytes. IsCutOff bytes left (calls ++ more))
@@ -145,7 +145,7 @@ module _ (me : ℕ) (opening : State) (seen seen' seen'' : List Entry) (before :
     served = Served-append me opening seen seen' seen'' so_far.calls turn.calls so_far.results turn.results so_far.served turn.served;
     taken = taken-turn whole rest now held before so_far.calls turn.calls so_far.taken turn.takes;
     puts = subst (λ all. IsPut w w'' t t'' all waiting') (answers-append so_far.results turn.results)
-      (IsPut-behind w w' w'' t t' t'' (flat_map answer_line so_far.results) waiting (flat_map answer_line turn.results) waiting' so_far.puts turn.puts);
+        (IsPut-behind w w' w'' t t' t'' (flat_map answer_line so_far.results) waiting (flat_map answer_line turn.results) waiting' so_far.puts turn.puts);
   }
 
   pub so_far-end : (reader : ReaderValue) (left : Option (List ℕ)) (ending : ScriptEnd) → AreTurnsSoFar me opening seen seen' before whole rest w w' t t' waiting →
@@ -157,5 +157,5 @@ module _ (me : ℕ) (opening : State) (seen seen' seen'' : List Entry) (before :
     made = made-turn whole rest (ahead reader left) reader.held before so_far.calls turn.calls ending so_far.taken turn.takes;
     cut_off = λ is. cut-turn whole rest reader left before so_far.calls turn.calls ending so_far.taken turn.takes is;
     puts = subst (λ all. ArePut w w'' t t'' all waiting' (Err ending)) (answers-append so_far.results turn.results)
-      (ArePut-behind w w' w'' t t' t'' (flat_map answer_line so_far.results) waiting (flat_map answer_line turn.results) waiting' (Err ending) so_far.puts turn.puts);
+        (ArePut-behind w w' w'' t t' t'' (flat_map answer_line so_far.results) waiting (flat_map answer_line turn.results) waiting' (Err ending) so_far.puts turn.puts);
   }

@@ -1,29 +1,26 @@
 -- What is done with a line of a script, and the turn of which it is a part.
-use Rattle.std.proofs.Common.{◌≡◌, ℕ, ◌+◌, ◌-◌, ◌<◌, ◌≤◌, ◌^◌, ◌⊎◌, inl, inr, true, false, List, [], ◌∷◌, ◌++◌, Option, Some, None, IfSome, refl, sym, ap, subst, ◌∙◌, append-nil, arith}
+use Rattle.std.proofs.Common.{◌≡◌, ℕ, ◌+◌, ◌-◌, ◌≤◌, ◌⊎◌, inl, inr, true, false, List, [], ◌∷◌, ◌++◌, Option, Some, None, IfSome, sym, ap, subst, ◌∙◌, append-nil, arith}
 use Rattle.std.specs.Prelude.{Ok, Err, Result, IfErr, MatchResult, flat_map}
-use Rattle.std.specs.Option.{option_map}
 use Rattle.desk_types.specs.declared.call.Call.{Call}
 use Rattle.desk_types.specs.declared.entry.Entry.{Entry}
 use Rattle.desk_types.specs.declared.entry.Fault.{Fault}
 use Rattle.desk_types.specs.declared.reply.Reply.{Reply}
 use Rattle.desk_types.specs.Journal.{IsLegal}
-use Rattle.desk_types.specs.Serving.{Serves, Served}
+use Rattle.desk_types.specs.Serving.{Serves}
 use Rattle.desk_types.specs.State.{State}
 use Rattle.desk_types.proofs.ServedInTurn.{Served-none, Served-one}
-use Rattle.desk_io.specs.Lines.{has_line_feed, first_line, after_first_line}
-use Rattle.desk_io.specs.NextLine.{IsFirstLine}
 use Rattle.desk_io.specs.Reader.{ReaderValue}
 use Rattle.desk_io.proofs.LineCuts.{cut-none}
-use Rattle.script_api.specs.declared.limits.TheConstants.{LINE_MAX, LINES_MAX}
+use Rattle.script_api.specs.declared.limits.TheConstants.{LINES_MAX}
 use Rattle.script_api.specs.declared.ending.ScriptEnd.{ScriptEnd}
-use Rattle.script_api.specs.declared.ending.ScriptEnd.TheVariants.{Ended, BadLine, LongLine, TooManyLines, NotBuilt, ReadFault, WriteFault, NoMemory}
+use Rattle.script_api.specs.declared.ending.ScriptEnd.TheVariants.{Ended, WriteFault, NoMemory}
 use Rattle.script_api.specs.declared.line.ScriptLine.{ScriptLine}
 use Rattle.script_api.specs.declared.line.ScriptLine.TheVariants.{Timed}
 use Rattle.script_api.specs.ReplyLine.{answer_line}
 use Rattle.script_api.specs.Script.{script_line}
 use Rattle.script_api.specs.ScriptRun.{EndCause}
 use Rattle.script_api.specs.Told.{calls_of, form_end}
-use Rattle.script_api.specs.Turn.{Going, IsPut, IsBroken, ArePut, GoesOn, EndsThere, Takes, ReadsLine, MakesCall, IsLineServed, IsTurn}
+use Rattle.script_api.specs.Turn.{Going, IsPut, IsBroken, ArePut, Takes, ReadsLine, MakesCall, IsLineServed, IsTurn}
 use Rattle.script_api.proofs.Putting.{ArePut-behind, ArePut-other, ArePut-nothing}
 use Rattle.script_api.proofs.Turning.{takes-broken, line_ended, line_goes, line_last}
 
@@ -123,7 +120,7 @@ turn-went me opening seen seen' number whole now reader text held w w' w'' t t' 
   served = line.served;
   takes = takes-went number whole now reader text held line.calls going from to reads is line.makes goes;
   puts = puts-went w w'' t t'' (waiting ++ flat_map answer_line line.results) waiting'' (reader.is_ended ≡ true) (reader.is_ended ≡ false) going goes
-  (ArePut-behind w w' w'' t t' t'' waiting waiting' (flat_map answer_line line.results) waiting'' (Ok tt) put line.puts);
+      (ArePut-behind w w' w'' t t' t'' waiting waiting' (flat_map answer_line line.results) waiting'' (Ok tt) put line.puts);
 }
 
 -- behind a last line nothing is ahead

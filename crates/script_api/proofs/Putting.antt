@@ -1,8 +1,8 @@
 -- Bytes that are put before a sink: some are appended to what it took, the others wait.
-use Rattle.std.proofs.Common.{◌≡◌, ℕ, ◌<◌, ◌^◌, List, [], ◌++◌, Option, IfSome, refl, sym, ap, subst, ◌∙◌, append_assoc, append-nil, arith}
+use Rattle.std.proofs.Common.{◌≡◌, ℕ, ◌<◌, ◌^◌, List, [], ◌++◌, Option, IfSome, sym, ap, subst, ◌∙◌, append_assoc, append-nil, arith}
 use Rattle.std.specs.Prelude.{Ok, Err}
 use Rattle.desk_io.specs.Writing.{Appends, IsPrefix, IsProperPrefix}
-use Rattle.desk_io.proofs.Appending.{Appends_none, Appends_more, IsProperPrefix_longer, IsProperPrefix_behind}
+use Rattle.desk_io.proofs.Appending.{Appends_none, Appends_more, IsProperPrefix_behind}
 use Rattle.script_api.specs.declared.ending.ScriptEnd.{ScriptEnd}
 use Rattle.script_api.specs.declared.ending.ScriptEnd.TheVariants.{Ended, BadLine, LongLine, TooManyLines, NotBuilt, ReadFault, WriteFault, NoMemory}
 use Rattle.script_api.specs.ScriptRun.{EndCause}

@@ -1,5 +1,5 @@
 -- What lines behind so many others tell, by the first of them.
-use Rattle.std.proofs.Common.{◌≡◌, ℕ, ◌+◌, ◌<◌, ◌≤◌, List, [], ◌∷◌, ◌++◌, length, Option, Some, None, refl, sym, ap, ◌∙◌, arith}
+use Rattle.std.proofs.Common.{◌≡◌, ℕ, ◌+◌, ◌<◌, ◌≤◌, List, [], length, Some, None, refl, ◌∙◌}
 use Rattle.std.proofs.lemmas.Bool.{lt-ltb, le-ltb, le-leb, lt-leb, cond-true, cond-false}
 use Rattle.desk_types.specs.declared.call.Call.{Call}
 use Rattle.desk_io.specs.Lines.{Line, lines, first_line, after_first_line}
@@ -8,7 +8,7 @@ use Rattle.script_api.specs.declared.limits.TheConstants.{LINE_MAX, LINES_MAX}
 use Rattle.script_api.specs.declared.ending.ScriptEnd.{ScriptEnd}
 use Rattle.script_api.specs.declared.ending.ScriptEnd.TheVariants.{Ended, LongLine, TooManyLines}
 use Rattle.script_api.specs.Script.{script_line}
-use Rattle.script_api.specs.Told.{ScriptValue, calls_of, form_end, end_at, unless_ended, behind_calls, told_behind, script_of}
+use Rattle.script_api.specs.Told.{calls_of, form_end, end_at, unless_ended, behind_calls, told_behind}
 
 pub end_at-many : (before : ℕ) (line : Line) → LINES_MAX ≤ before → end_at before line ≡ Some TooManyLines
 unfolding end_at

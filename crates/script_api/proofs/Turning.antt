@@ -1,33 +1,21 @@
 -- A turn of a script: from the line that was read and what was done with it to what the bytes ahead tell.
-use Rattle.std.proofs.Common.{◌≡◌, ◌≢◌, ℕ, ◌+◌, ◌-◌, ◌<◌, ◌≤◌, ◌^◌, ◌⊎◌, inl, inr, true, false, List, [], ◌∷◌, ◌++◌, length, Option, Some, None, IfSome, refl, sym, ap, subst, ◌∙◌, append-nil, arith}
-use Rattle.std.specs.Prelude.{Result, Ok, Err, IfErr, MatchResult, flat_map}
-use Rattle.std.specs.Option.{option_map}
+use Rattle.std.proofs.Common.{◌≡◌, ℕ, ◌+◌, ◌-◌, ◌<◌, ◌≤◌, ◌⊎◌, inl, inr, true, false, List, [], ◌∷◌, ◌++◌, length, Option, Some, None, IfSome, refl, sym, ap, ◌∙◌, append-nil, arith}
+use Rattle.std.specs.Prelude.{Ok, Err}
 use Rattle.desk_types.specs.declared.call.Call.{Call}
-use Rattle.desk_types.specs.declared.entry.Entry.{Entry}
-use Rattle.desk_types.specs.declared.entry.Fault.{Fault}
-use Rattle.desk_types.specs.declared.reply.Reply.{Reply}
-use Rattle.desk_types.specs.Journal.{IsLegal}
-use Rattle.desk_types.specs.Serving.{Serves, Served}
-use Rattle.desk_types.specs.State.{State}
-use Rattle.desk_types.proofs.ServedInTurn.{Served-none, Served-one}
 use Rattle.desk_io.specs.Lines.{Line, has_line_feed, lines, first_line, after_first_line}
 use Rattle.desk_io.specs.NextLine.{ahead, GivesLine, IsFirstLine}
 use Rattle.desk_io.specs.declared.line_reader.LineGot.{LineGot}
 use Rattle.desk_io.specs.declared.line_reader.LineGot.TheVariants.{Line as GotLine, End as GotEnd, TooLong as GotTooLong, ReadFault as GotReadFault}
 use Rattle.desk_io.specs.Reader.{ReaderValue}
 use Rattle.desk_io.proofs.LineLaws.{first_line-last}
-use Rattle.desk_io.proofs.LineCuts.{cut-none, some-from_feed}
+use Rattle.desk_io.proofs.LineCuts.{cut-none}
 use Rattle.script_api.specs.declared.limits.TheConstants.{LINE_MAX, LINES_MAX}
 use Rattle.script_api.specs.declared.ending.ScriptEnd.{ScriptEnd}
 use Rattle.script_api.specs.declared.ending.ScriptEnd.TheVariants.{Ended, BadLine, LongLine, TooManyLines, NotBuilt, ReadFault, WriteFault, NoMemory}
-use Rattle.script_api.specs.declared.line.ScriptLine.{ScriptLine}
-use Rattle.script_api.specs.declared.line.ScriptLine.TheVariants.{Timed}
-use Rattle.script_api.specs.ReplyLine.{answer_line}
 use Rattle.script_api.specs.Script.{script_line}
-use Rattle.script_api.specs.ScriptRun.{AreFirstOf, AreMade, EndCause}
+use Rattle.script_api.specs.ScriptRun.{AreFirstOf}
 use Rattle.script_api.specs.Told.{ScriptValue, calls_of, form_end, end_at, behind_calls, told_behind}
-use Rattle.script_api.specs.Turn.{Going, IsPut, IsBroken, ArePut, GoesOn, TakesNothing, EndsThere, Takes, ReadsLine, MakesCall, IsLineServed, IsTurn}
-use Rattle.script_api.proofs.Putting.{IsPut-behind, ArePut-behind, ArePut-other, ArePut-nothing}
+use Rattle.script_api.specs.Turn.{GoesOn, EndsThere, Takes, MakesCall}
 use Rattle.script_api.proofs.Telling.{end_at-many, end_at-long, end_at-form, told-end, told-ended, told-goes}
 
 -- no calls are the first of any

@@ -10,19 +10,19 @@ use desk_types::Service;
 use std::alloc::Global;
 
 /// Runs the script that the input holds on a service: it reads the lines in order, makes the call
-/// of each at its moment, and writes the line of its answer. Before it reads on, it writes all
-/// lines that wait.
+/// of each at its moment, in seconds, and writes the line of its answer. The lines that wait are
+/// written before more of the input is read.
 ///
-/// A line is judged first by its number, then by its length, then by its form, and the first that
-/// fails ends the script. All answers are written at each end but two: after `WriteFault` a
-/// beginning of them and not all, for `NoMemory` a beginning.
+/// A line is judged by its number, then by its length, then, where it is not passed over, by its
+/// form; the first that fails ends the script before its call is made. The lines of all answers are
+/// written; only after `WriteFault` a beginning of them and not all, and for `NoMemory` a beginning.
 ///
 /// | End | Comes |
 /// |---|---|
-/// | `Ended` | no line ends the script; nothing is left of the input |
-/// | `BadLine`, `LongLine`, `TooManyLines`, `NotBuilt` | exactly where the script ends so |
-/// | `ReadFault` | a read failed: the input's count of faults rose |
-/// | `WriteFault` | a write failed: the output's count of faults rose |
+/// | `Ended` | no line ends the script, and nothing is left of the input |
+/// | `BadLine`, `LongLine`, `TooManyLines`, `NotBuilt` | the first line that fails ends the script so |
+/// | `ReadFault` | a read failed, the input's count of faults rose, and no line read before ends the script |
+/// | `WriteFault` | a write failed, and the output's count of faults rose |
 /// | `NoMemory` | want of memory |
 pub fn script<V: Service, S: Source, T: Sink>(
     alloc: Global,

@@ -1,6 +1,4 @@
-use Rattle.std.proofs.Common.{◌∙◌, sym, lit<, IfOk, ◌≡◌}
-use Rattle.script_api.specs.Fields.{trimmed}
-use Rattle.script_api.specs.Script.{told_by_text}
+use Rattle.std.proofs.Common.{◌∙◌, sym, lit<}
 use Rattle.script_api.proofs.LineLemmas.{told-line}
 use Rattle.script_api.proofs.line.read_line.Goals as goal
 

@@ -1,4 +1,4 @@
-use Rattle.std.proofs.Common.{◌≡◌, ◌-◌, refl}
+use Rattle.std.proofs.Common.{◌-◌, refl}
 use Rattle.std.proofs.lemmas.Result.{err_from_is_err_and}
 use Rattle.desk_io.specs.NextLine.{ahead}
 use Rattle.script_api.proofs.Making.{turn-broken, turn-unread, turn-ended, turn-went, went-none}
@@ -7,38 +7,47 @@ use Rattle.script_api.proofs.serving.Serving.serve_line.Goals as goal
 
 pub returns-in_default-clause-turn : goal.returns-in_default-clause-turn
 returns-in_default-clause-turn g c =
-    turn-broken _ _ _ (c.args.number - 1) (ahead c.args.self.now.reader (g.S.Source.left c.args.input.now)) (ahead c.flush_unless_held.new.self.reader (g.S.Source.left c.args.input.now)) c.flush_unless_held.new.self.reader.held
-    _ _ _ _ c.args.self.now.answers c.flush_unless_held.new.self.answers c.history_is_legal.ensures.legal c.in_default.ensures.fault
+    turn-broken (g.V.Service.me c.args.service.now) (g.V.Service.opening c.args.service.now) (g.V.Service.seen c.args.service.now)
+    (c.args.number - 1) (ahead c.args.self.now.reader (g.S.Source.left c.args.input.now)) (ahead c.flush_unless_held.new.self.reader (g.S.Source.left c.args.input.now)) c.flush_unless_held.new.self.reader.held
+    (g.T.Sink.written c.args.output.now) (g.T.Sink.written c.flush_unless_held.new.output) (g.T.Sink.taken c.args.output.now) (g.T.Sink.taken c.flush_unless_held.new.output)
+    c.args.self.now.answers c.flush_unless_held.new.self.answers c.history_is_legal.ensures.legal c.in_default.ensures.fault
 
 pub returns-in_err-next_line-clause-turn : goal.returns-in_err-next_line-clause-turn
 returns-in_err-next_line-clause-turn g c =
     let p = err_from_is_err_and c.from_residual.result c.from_residual.ensures.1 in
     rw (p.1, p.2, c.in_err-next_line.ensures.answers)
-    (turn-unread _ _ _ (c.args.number - 1) (ahead c.args.self.now.reader (g.S.Source.left c.args.input.now)) (ahead c.next_line.new.self.reader (g.S.Source.left c.next_line.new.input)) c.next_line.new.self.reader
-    _ _ _ _ c.args.self.now.answers c.flush_unless_held.new.self.answers (g.S.Source.read_faults c.args.input.now) (g.S.Source.read_faults c.next_line.new.input) c.in_err-next_line.field-0.0
+    (turn-unread (g.V.Service.me c.args.service.now) (g.V.Service.opening c.args.service.now) (g.V.Service.seen c.args.service.now)
+    (c.args.number - 1) (ahead c.args.self.now.reader (g.S.Source.left c.args.input.now)) (ahead c.next_line.new.self.reader (g.S.Source.left c.next_line.new.input)) c.next_line.new.self.reader
+    (g.T.Sink.written c.args.output.now) (g.T.Sink.written c.flush_unless_held.new.output) (g.T.Sink.taken c.args.output.now) (g.T.Sink.taken c.flush_unless_held.new.output)
+    c.args.self.now.answers c.flush_unless_held.new.self.answers (g.S.Source.read_faults c.args.input.now) (g.S.Source.read_faults c.next_line.new.input) c.in_err-next_line.field-0.0
     c.history_is_legal.ensures.legal (rw c.in-Ok.ensures.reader at c.in_err-next_line.ensures.reads) c.in-Ok.ensures.put c.in_err-next_line.ensures.cause)
 
 pub returns-in_err-serve_text-clause-turn : goal.returns-in_err-serve_text-clause-turn
 returns-in_err-serve_text-clause-turn g c =
     let p = err_from_is_err_and c.from_residual-in_err-serve_text.result c.from_residual-in_err-serve_text.ensures.1 in
-    let reader = c.next_line.new.self.reader in
     rw (p.1, p.2, c.in_err-serve_text.ensures.reader)
-    (turn-ended _ _ _ _ c.args.number (ahead c.args.self.now.reader (g.S.Source.left c.args.input.now)) (ahead reader (g.S.Source.left c.next_line.new.input)) reader reader.line reader.held
-    _ _ _ _ _ _ c.args.self.now.answers c.flush_unless_held.new.self.answers c.serve_text.new.self.answers c.in_err-serve_text.field-0.0
+    (turn-ended (g.V.Service.me c.args.service.now) (g.V.Service.opening c.args.service.now) (g.V.Service.seen c.args.service.now) (g.V.Service.seen c.serve_text.new.service)
+    c.args.number (ahead c.args.self.now.reader (g.S.Source.left c.args.input.now)) (ahead c.next_line.new.self.reader (g.S.Source.left c.next_line.new.input))
+    c.next_line.new.self.reader c.next_line.new.self.reader.line c.next_line.new.self.reader.held
+    (g.T.Sink.written c.args.output.now) (g.T.Sink.written c.flush_unless_held.new.output) (g.T.Sink.written c.serve_text.new.output)
+    (g.T.Sink.taken c.args.output.now) (g.T.Sink.taken c.flush_unless_held.new.output) (g.T.Sink.taken c.serve_text.new.output)
+    c.args.self.now.answers c.flush_unless_held.new.self.answers c.serve_text.new.self.answers c.in_err-serve_text.field-0.0
     c.requires.number.0 c.requires.number.1 (rw c.in-Ok.ensures.reader at c.in_ok-next_line.ensures.reads) refl c.in-Ok.ensures.put (rw c.in_ok-next_line.ensures.answers at c.in_err-serve_text.ensures.served))
 
 pub returns-clause-turn : goal.returns-clause-turn
 returns-clause-turn g c =
-    let reader = c.next_line.new.self.reader in
     rw c.in_ok-serve_text.ensures.reader
-    (turn-went _ _ _ _ c.args.number (ahead c.args.self.now.reader (g.S.Source.left c.args.input.now)) (ahead reader (g.S.Source.left c.next_line.new.input)) reader reader.line reader.held
-    _ _ _ _ _ _ c.args.self.now.answers c.flush_unless_held.new.self.answers c.serve_text.new.self.answers c.go_on.result
+    (turn-went (g.V.Service.me c.args.service.now) (g.V.Service.opening c.args.service.now) (g.V.Service.seen c.args.service.now) (g.V.Service.seen c.serve_text.new.service)
+    c.args.number (ahead c.args.self.now.reader (g.S.Source.left c.args.input.now)) (ahead c.next_line.new.self.reader (g.S.Source.left c.next_line.new.input))
+    c.next_line.new.self.reader c.next_line.new.self.reader.line c.next_line.new.self.reader.held
+    (g.T.Sink.written c.args.output.now) (g.T.Sink.written c.flush_unless_held.new.output) (g.T.Sink.written c.serve_text.new.output)
+    (g.T.Sink.taken c.args.output.now) (g.T.Sink.taken c.flush_unless_held.new.output) (g.T.Sink.taken c.serve_text.new.output)
+    c.args.self.now.answers c.flush_unless_held.new.self.answers c.serve_text.new.self.answers c.go_on.result
     c.requires.number.0 c.requires.number.1 (rw c.in-Ok.ensures.reader at c.in_ok-next_line.ensures.reads) refl c.in-Ok.ensures.put (rw c.in_ok-next_line.ensures.answers at c.in_ok-serve_text.ensures.served)
     (rw c.in_ok-serve_text.ensures.reader at c.go_on.ensures))
 
 pub returns-clause-all_read : goal.returns-clause-all_read
 returns-clause-all_read g c =
-    let reader = c.next_line.new.self.reader in
-    let left = g.S.Source.left c.next_line.new.input in
-    λ is. none_left reader left (went-none (c.args.number - 1) (ahead c.args.self.now.reader (g.S.Source.left c.args.input.now)) (ahead reader left) reader c.go_on.result
+    λ is. none_left c.next_line.new.self.reader (g.S.Source.left c.next_line.new.input)
+    (went-none (c.args.number - 1) (ahead c.args.self.now.reader (g.S.Source.left c.args.input.now)) (ahead c.next_line.new.self.reader (g.S.Source.left c.next_line.new.input)) c.next_line.new.self.reader c.go_on.result
     (rw c.in-Ok.ensures.reader at c.in_ok-next_line.ensures.reads) (rw c.in_ok-serve_text.ensures.reader at c.go_on.ensures) is)

@@ -13,7 +13,7 @@ loop-number-init g c = record {
   me = refl;
   sure = refl;
   turns = so_far-none _ _ _ (ahead c.args.self.now.reader (g.S.Source.left c.args.input.now)) (g.T.Sink.written c.args.output.now) (g.T.Sink.taken c.args.output.now) c.args.self.now.answers
-    c.requires.legal (g.met.T.Sink.taken_fits c.args.output.now) c.requires.waiting;
+      c.requires.legal (g.met.T.Sink.taken_fits c.args.output.now) c.requires.waiting;
   read_faults = omega arith;
   write_faults = omega arith;
 }
@@ -29,10 +29,10 @@ loop-number-preserved g c =
       me = c.serve_line.ensures.me ∙ before.me;
       sure = c.serve_line.ensures.sure ∙ before.sure;
       turns = subst (λ (n : ℕ). AreTurnsSoFar (g.V.Service.me c.args.service.now) (g.V.Service.opening c.args.service.now) (g.V.Service.seen c.args.service.now) (g.V.Service.seen c.serve_line.new.service) n
-        (ahead c.args.self.now.reader (g.S.Source.left c.args.input.now)) (ahead c.serve_line.new.self.reader (g.S.Source.left c.serve_line.new.input))
-        (g.T.Sink.written c.args.output.now) (g.T.Sink.written c.serve_line.new.output) (g.T.Sink.taken c.args.output.now) (g.T.Sink.taken c.serve_line.new.output) c.serve_line.new.self.answers) same
-        (so_far-more _ _ _ _ _ (c.loop-number.number - 1) (ahead c.args.self.now.reader (g.S.Source.left c.args.input.now)) (ahead c.loop-number.self.reader (g.S.Source.left c.loop-number.input)) (ahead c.serve_line.new.self.reader (g.S.Source.left c.serve_line.new.input))
-        _ _ _ _ _ _ c.loop-number.self.answers c.serve_line.new.self.answers c.serve_line.new.self.reader.held before.turns (rw (before.me, before.opening) at c.in_default.ensures.turn));
+          (ahead c.args.self.now.reader (g.S.Source.left c.args.input.now)) (ahead c.serve_line.new.self.reader (g.S.Source.left c.serve_line.new.input))
+          (g.T.Sink.written c.args.output.now) (g.T.Sink.written c.serve_line.new.output) (g.T.Sink.taken c.args.output.now) (g.T.Sink.taken c.serve_line.new.output) c.serve_line.new.self.answers) same
+          (so_far-more _ _ _ _ _ (c.loop-number.number - 1) (ahead c.args.self.now.reader (g.S.Source.left c.args.input.now)) (ahead c.loop-number.self.reader (g.S.Source.left c.loop-number.input)) (ahead c.serve_line.new.self.reader (g.S.Source.left c.serve_line.new.input))
+          _ _ _ _ _ _ c.loop-number.self.answers c.serve_line.new.self.answers c.serve_line.new.self.reader.held before.turns (rw (before.me, before.opening) at c.in_default.ensures.turn));
       read_faults = omega (arith, c.serve_line.ensures.read_faults);
       write_faults = omega (arith, c.serve_line.ensures.write_faults);
     }

@@ -109,8 +109,9 @@ pub answer-is : {E : Type 0} (result : Result Answer E) (outcome : Outcome) → 
 answer-is (Ok answer) outcome text status = (text, status)
 answer-is (Err e) outcome text status = tt
 
-pub three-not_0 : 3 ≢ 0
-three-not_0 = λ e. omega (arith, e)
+-- the statuses of a read fault and of a line without a call
+pub three-not_0 : (status : ℕ) → status ≡ 3 → status ≢ 0
+three-not_0 status is = λ zero. omega (arith, is, zero)
 
-pub eight-not_0 : 8 ≢ 0
-eight-not_0 = λ e. omega (arith, e)
+pub eight-not_0 : (status : ℕ) → status ≡ 8 → status ≢ 0
+eight-not_0 status is = λ zero. omega (arith, is, zero)

@@ -9,6 +9,7 @@ use std::test::Fail;
 mod auctions;
 mod ends;
 mod lines;
+mod scripts;
 
 /// The sizes of the pieces in which the input comes and the output goes.
 const CUTS: [u64; 4] = [1, 2, 3, 4_096];

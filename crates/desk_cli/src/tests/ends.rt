@@ -15,12 +15,13 @@ fn check_refused(rt: &(impl Abort + AllocGlobal), words: &[&str]) -> Result<(), 
     Ok(())
 }
 
-/// Words that are not the one word `auction`.
-const OTHER_WORDS: [&[&str]; 5] = [
+/// Words that the program does not take.
+const OTHER_WORDS: [&[&str]; 6] = [
     &[],
     &[""],
     &["auctions"],
     &["Auction"],
+    &["scripts"],
     &["auction", "auction"],
 ];
 

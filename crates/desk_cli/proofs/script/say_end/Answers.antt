@@ -1,3 +1,4 @@
+use Rattle.std.proofs.Common.{refl}
 use Rattle.desk_cli.specs.declared.fault.AuctionFault.TheVariants.{BadLine, LongLine, TooManyLines}
 use Rattle.desk_cli.specs.Ending.{read_fault_outcome}
 use Rattle.desk_cli.specs.Outcome.{fault_outcome}
@@ -17,8 +18,8 @@ returns-in-TooManyLines-clause-all_read g c = λ zero. absurd (written-not_0 _ _
 pub returns-in-NotBuilt-clause-all_read : goal.returns-in-NotBuilt-clause-all_read
 returns-in-NotBuilt-clause-all_read g c =
     let outcome = not_built_outcome c.in-NotBuilt.number in
-    λ zero. absurd (written-not_0 _ _ _ _ _ _ outcome _ eight-not_0 (c.say_answer.ensures.said outcome (answer-is _ outcome c.not_built_answer.ensures.text c.not_built_answer.ensures.status)) zero)
+    λ zero. absurd (written-not_0 _ _ _ _ _ _ outcome _ (eight-not_0 8 refl) (c.say_answer.ensures.said outcome (answer-is _ outcome c.not_built_answer.ensures.text c.not_built_answer.ensures.status)) zero)
 
 pub returns-in-ReadFault-clause-all_read : goal.returns-in-ReadFault-clause-all_read
 returns-in-ReadFault-clause-all_read g c =
-    λ zero. absurd (written-not_0 _ _ _ _ _ _ read_fault_outcome _ three-not_0 (c.say_answer-in-ReadFault.ensures.said read_fault_outcome (answer-is _ read_fault_outcome c.read_fault_answer.ensures.text c.read_fault_answer.ensures.status)) zero)
+    λ zero. absurd (written-not_0 _ _ _ _ _ _ read_fault_outcome _ (three-not_0 3 refl) (c.say_answer-in-ReadFault.ensures.said read_fault_outcome (answer-is _ read_fault_outcome c.read_fault_answer.ensures.text c.read_fault_answer.ensures.status)) zero)

@@ -1,5 +1,5 @@
 -- How a call of the program with the word `script` ends.
-use Rattle.std.specs.Prelude.{◌≡◌, ℕ, List, [], ◌++◌, codes, decimal, Option}
+use Rattle.std.specs.Prelude.{◌≡◌, ℕ, ◌≤◌, List, [], ◌++◌, codes, decimal, Option}
 use Rattle.desk_types.specs.declared.entry.Entry.{Entry}
 use Rattle.desk_types.specs.Eligible.{entrants_for}
 use Rattle.desk_types.specs.LedgerLaws.{IsFairPage, StaysWithinBudgets}
@@ -44,6 +44,7 @@ pub record IsScriptServed (left left_now : Option (List ℕ)) (reads reads_now :
   pub writes_between : ℕ
   pub ran : IsRun 1 (opening desk) [] desk.log left left_now written written_between taken taken_between end
   pub cause : EndCause reads reads_now writes writes_between end
+  pub no_fewer_faults : (writes ≤ writes_between) × (writes_between ≤ writes_now)
   pub said : IsLastSaid written_between written_now taken_between taken_now writes_between writes_now end status
 
 -- at each moment of the desk's history, spent and escrowed together stay within each budget, and each page has the best ads at the least prices that keep their places

@@ -51,4 +51,4 @@ pub record IsScriptServed (left left_now : Option (List ℕ)) (reads reads_now :
 pub record IsFairThroughout (desk : DeskValue) : Type 0 where
   pub budgets : (before after : List Entry) → desk.log ≡ before ++ after → StaysWithinBudgets (run (opening desk) before)
   pub pages : (before after : List Entry) → desk.log ≡ before ++ after → (moment : ℕ) (query : List (List ℕ)) (n : ℕ) →
-    let S = at_moment (run (opening desk) before) moment in IsFairPage S query n (page (entrants_for S query) n)
+      let S = at_moment (run (opening desk) before) moment in IsFairPage S query n (page (entrants_for S query) n)

@@ -68,11 +68,7 @@ fn say_fault<T: Sink>(alloc: Global, output: &mut T, fault: AuctionFault) -> u8
 }
 
 /// Writes an answer, and answers its status, or 5 where the answer wanted memory.
-fn say_answer<T: Sink>(
-    alloc: Global,
-    output: &mut T,
-    answer: Result<Answer, AllocError>,
-) -> u8
+fn say_answer<T: Sink>(alloc: Global, output: &mut T, answer: Result<Answer, AllocError>) -> u8
     ensures said { (outcome : Outcome) → IfOk answer (λ made. (string_bytes made.text ≡ outcome.output) × (made.status ≡ outcome.status)) → IsWritten (T.written output.old) (T.written output.new) (T.taken output.old) (T.taken output.new) (T.write_faults output.old) (T.write_faults output.new) outcome result }
     ensures faults { T.write_faults output.old ≤ T.write_faults output.new }
 {

@@ -7,6 +7,7 @@ use std::test::Fail;
 /// An account with a campaign and a line, and what they are answered.
 const OPENED: &str = "100 account secret01\n100 campaign 1 secret01 1000\n\
     100 line 1 secret01 1 50 http://s.example/ shoes | Shoes\n";
+
 const MADE: &str = "made 1\nmade 1\nmade 1\n";
 
 /// Checks that a script behind the opening lines is answered by a status and an output, in whatever
@@ -27,7 +28,11 @@ fn check(
         };
         let told = call(rt.alloc(), &["script"], input.as_bytes(), way)?;
         assert_eq!(rt; told.status, status, "{lines}, in pieces of {cut}");
-        assert_eq!(rt; told.output.bytes(), output.as_bytes(), "{lines}, in pieces of {cut}");
+        assert_eq!(rt;
+            told.output.bytes(),
+            output.as_bytes(),
+            "{lines}, in pieces of {cut}"
+        );
     }
     Ok(())
 }
@@ -83,7 +88,7 @@ fn a_fault_ends_a_script(rt: HostRuntime) -> Result<(), Fail> {
     };
     let Told { status, output } = call(rt.alloc(), &["script"], OPENED.as_bytes(), way)?;
     assert_eq!(rt; status, 3);
-    assert_eq!(rt; output.bytes(), b"made 1\nread fault\n");
+    assert_eq!(rt; output.bytes(), b"made 1\nread fault\n".as_slice());
     let way = Way {
         cut: 4_096,
         failing_read: 0,
@@ -91,6 +96,6 @@ fn a_fault_ends_a_script(rt: HostRuntime) -> Result<(), Fail> {
     };
     let Told { status, output } = call(rt.alloc(), &["script"], OPENED.as_bytes(), way)?;
     assert_eq!(rt; status, 4);
-    assert_eq!(rt; output.bytes(), b"");
+    assert_eq!(rt; output.bytes(), b"".as_slice());
     Ok(())
 }

@@ -12,7 +12,8 @@ use Rattle.desk_cli.specs.declared.fault.AuctionFault.TheVariants.{LongLine, Too
 use Rattle.desk_cli.specs.declared.form.AdLine.{AdLine}
 use Rattle.desk_cli.specs.declared.form.LineName.{LineName}
 use Rattle.desk_cli.specs.HeadingValue.{HeadingValue}
-use Rattle.desk_cli.specs.Form.{is_skipped, heading_in, ad_in}
+use Rattle.desk_cli.specs.Form.{heading_in, ad_in}
+use Rattle.script_api.specs.Fields.{is_skipped}
 use Rattle.desk_cli.specs.Told.{spoken, is_eligible, eligible_ads}
 use Rattle.desk_cli.specs.Judged.{heading_fault, ad_fault, form_fault, fault_at, or_else, first_fault, AuctionValue, auction_of, unless_fault, told_by}
 use Rattle.desk_cli.specs.Running.{end_of, line_fault, judged_rest, SoFar, nothing_yet, name_of, is_same_name, kept_ads, name_fault, ad_fault_now, with_ad, spoken_fault, spoken_step, fault_now, step}

@@ -9,11 +9,6 @@ use Rattle.desk_cli.specs.declared.form.AdLine.{AdLine}
 use Rattle.script_api.specs.Fields.{fields}
 use Rattle.script_api.specs.Number.{number_within}
 
--- whether a line is passed over: it is empty or begins with `#`
-abbrev pub is_skipped : List ℕ → Bool
-is_skipped [] = true
-is_skipped (byte ∷ more) = byte == 35
-
 -- whether a space stands at an end of the line
 unfoldable pub has_outer_space : List ℕ → Bool
 has_outer_space line = slice_index line 0 == 32 || slice_index line (length line - 1) == 32

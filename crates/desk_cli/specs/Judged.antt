@@ -8,7 +8,8 @@ use Rattle.desk_cli.specs.declared.fault.AuctionFault.{AuctionFault}
 use Rattle.desk_cli.specs.declared.fault.AuctionFault.TheVariants.{BadLine, LongLine, TooManyLines}
 use Rattle.desk_cli.specs.declared.form.AdLine.{AdLine}
 use Rattle.desk_cli.specs.HeadingValue.{HeadingValue}
-use Rattle.desk_cli.specs.Form.{is_skipped, heading_in, ad_in}
+use Rattle.desk_cli.specs.Form.{heading_in, ad_in}
+use Rattle.script_api.specs.Fields.{is_skipped}
 use Rattle.desk_cli.specs.Told.{spoken, eligible_ads}
 
 -- the fault of the numbered line that is to tell the heading: it tells none

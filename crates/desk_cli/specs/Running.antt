@@ -11,7 +11,8 @@ use Rattle.desk_cli.specs.declared.fault.ReadEnd.TheVariants.{Fault, ReadFault, 
 use Rattle.desk_cli.specs.declared.form.AdLine.{AdLine}
 use Rattle.desk_cli.specs.declared.form.LineName.{LineName}
 use Rattle.desk_cli.specs.HeadingValue.{HeadingValue}
-use Rattle.desk_cli.specs.Form.{is_skipped, heading_in, ad_in}
+use Rattle.desk_cli.specs.Form.{heading_in, ad_in}
+use Rattle.script_api.specs.Fields.{is_skipped}
 use Rattle.desk_cli.specs.Judged.{AuctionValue, heading_fault, unless_fault}
 use Rattle.desk_cli.specs.Told.{is_eligible}
 

@@ -4,7 +4,7 @@ use Rattle.desk_types.specs.AdValue.{AdValue, score}
 use Rattle.desk_io.specs.Lines.{Line}
 use Rattle.desk_cli.specs.HeadingValue.{HeadingValue}
 use Rattle.desk_cli.specs.declared.form.AdLine.{AdLine}
-use Rattle.desk_cli.specs.Form.{is_skipped}
+use Rattle.script_api.specs.Fields.{is_skipped}
 
 -- the texts of the lines that are not passed over: the first tells the heading, the others the ads
 unfoldable pub spoken : List Line → List (List ℕ)

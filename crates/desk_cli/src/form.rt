@@ -3,7 +3,7 @@
 ghost use Rattle.std.specs.Prelude.{◌≡◌, IfSome};
 ghost use Rattle.desk_types.specs.AdValue.{IsBid, IsQuality};
 ghost use Rattle.desk_cli.specs.HeadingValue.{IsFloor, IsPlaces};
-ghost use Rattle.desk_cli.specs.Form.{ad_from, ad_in, has_outer_space as has_space_outside, heading_from, heading_in, is_skipped as skips, name_from, name_in};
+ghost use Rattle.desk_cli.specs.Form.{ad_from, ad_in, has_outer_space as has_space_outside, heading_from, heading_in, name_from, name_in};
 
 use crate::heading::Heading;
 use crate::limits::{FREE_MAX, NUMBER_MAX};
@@ -39,16 +39,6 @@ impl AdLine {
             campaign: self.ad.campaign(),
             line: self.ad.line(),
         }
-    }
-}
-
-/// Whether a line is passed over: it is empty or begins with `#`.
-pub fn is_skipped(line: &[u8]) -> bool
-    ensures { result ≡ skips line.now }
-{
-    match line {
-        [] => true,
-        [byte, ..] => *byte == b'#',
     }
 }
 

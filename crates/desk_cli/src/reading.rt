@@ -10,11 +10,12 @@ ghost use Rattle.desk_cli.specs.Told.{is_eligible};
 
 use crate::auction::Auction;
 use crate::fault::{AuctionFault, ReadEnd};
-use crate::form::{AdLine, LineName, ad_of, heading_of, is_skipped};
+use crate::form::{AdLine, LineName, ad_of, heading_of};
 use crate::heading::Heading;
 use crate::limits::ADS_MAX;
 use desk_types::Ad;
 use indexmap::IndexSet;
+use script_api::fields::is_skipped;
 use std::alloc::Global;
 use std::marker::Model;
 

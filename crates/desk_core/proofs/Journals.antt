@@ -12,7 +12,7 @@ use Rattle.desk_types.specs.Serving.{with_entry}
 use Rattle.desk_types.specs.SettingsValue.{SettingsValue}
 use Rattle.desk_types.specs.Weight.{weight}
 use Rattle.desk_types.proofs.Legality.{has_room, legal_answer, numbers}
-use Rattle.desk_core.specs.JournalValue.{IsJournal}
+use Rattle.desk_core.specs.JournalValue.{IsLegalJournal}
 
 pub full_by_entries : (settings : SettingsValue) (entries : List Entry) (call : Call) (most count : ℕ) → most ≡ settings.journal → count ≡ length entries → most ≤ count → nat_le most count ≡ is_full settings entries call
 unfolding is_full
@@ -41,11 +41,11 @@ pub numbered_as : (caller : ℕ) (entries same : List Entry) → same ≡ entrie
 numbered_as caller entries same is h = subst (λ es. numbers caller es ≡ range_with_len 1 (entries_of caller es)) (sym is) h
 
 -- the journal with the caller's next entry
-pub journal_more : (settings : SettingsValue) (entries left : List Entry) (bytes more caller moment : ℕ) (call : Call) → IsJournal settings entries bytes → is_full settings entries call ≡ false → more ≡ weight call
-    → left ≡ with_entry caller entries moment call Answered → IsJournal settings left (bytes + more)
+pub journal_more : (settings : SettingsValue) (entries left : List Entry) (bytes more caller moment : ℕ) (call : Call) → IsLegalJournal settings entries bytes → is_full settings entries call ≡ false → more ≡ weight call
+    → left ≡ with_entry caller entries moment call Answered → IsLegalJournal settings left (bytes + more)
 journal_more settings entries left bytes more caller moment call h room weighs is =
     let e : Entry = record { caller = caller; number = entries_of caller entries + 1; moment = moment; call = call; outcome = Answered } in
-    subst (λ es. IsJournal settings es (bytes + more)) (sym is)
+    subst (λ es. IsLegalJournal settings es (bytes + more)) (sym is)
     (record {
       legal = legal_answer settings entries caller moment call h.legal room;
       counted = omega (arith, h.counted, weighs, sum_by_push (λ (x : Entry). weight x.call) entries e);

@@ -7,10 +7,6 @@ use Rattle.desk_types.specs.declared.entry.Entry.{Entry}
 use Rattle.desk_types.specs.Journal.{entries_of}
 use Rattle.desk_types.proofs.Legality.{entries-push, numbers, numbers-push, range-more}
 
--- the caller's entries have the numbers from 1 on
-pub record IsNumbered (caller : ℕ) (entries : List Entry) : Type 0 where
-  pub numbered : numbers caller entries ≡ range_with_len 1 (entries_of caller entries)
-
 -- the entries searched so far are none of the caller's
 pub record IsLeft (caller : ℕ) (entries rest : List Entry) : Type 0 where
   pub numbered : numbers caller rest ≡ range_with_len 1 (entries_of caller rest)

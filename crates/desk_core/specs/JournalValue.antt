@@ -11,6 +11,6 @@ pub record JournalValue : Type 0 where
   pub spare : ℕ
 
 -- the entries are a legal journal, and these are the bytes of its calls
-pub record IsJournal (settings : SettingsValue) (entries : List Entry) (bytes : ℕ) : Type 0 where
+pub record IsLegalJournal (settings : SettingsValue) (entries : List Entry) (bytes : ℕ) : Type 0 where
   pub legal : IsLegal settings entries
   pub counted : bytes ≡ bytes_of entries

@@ -24,13 +24,13 @@ pub struct Journal {
 impl Model for Journal {
     ghost use Rattle.std.specs.Prelude.{◌-◌};
     ghost use Rattle.std.specs.Vec.{vec_capacity, vec_len};
-    ghost use Rattle.desk_core.specs.JournalValue.{JournalValue, IsJournal};
+    ghost use Rattle.desk_core.specs.JournalValue.{JournalValue, IsLegalJournal};
 
     ghost Value = { JournalValue };
 
     ghost view = { λ j. record { settings = j.settings; entries = j.entries.items; spare = vec_capacity j.entries - vec_len j.entries } };
 
-    ghost invariant = { λ j. IsJournal j.settings j.entries.items j.bytes };
+    ghost invariant = { λ j. IsLegalJournal j.settings j.entries.items j.bytes };
 }
 
 impl Journal {

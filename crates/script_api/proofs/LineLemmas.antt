@@ -6,7 +6,8 @@ use Rattle.std.proofs.lemmas.Bool.{cases_Bool}
 use Rattle.std.proofs.lemmas.Str.{IsUtf8-from_is_utf8, is_utf8-from_IsUtf8}
 use Rattle.script_api.specs.declared.line.ScriptLine.{ScriptLine}
 use Rattle.script_api.specs.Fields.{trimmed}
-use Rattle.script_api.specs.Script.{is_skipped, told_by_text, script_line}
+use Rattle.script_api.specs.Script.{told_by_text, script_line}
+use Rattle.script_api.specs.Fields.{is_skipped}
 
 pub tests_utf8 : (line : List ℕ) → ¬ (IsUtf8 line) → is_utf8 line ≡ false
 tests_utf8 line none = elim (cases_Bool (is_utf8 line)) [

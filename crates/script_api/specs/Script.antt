@@ -1,5 +1,5 @@
 -- What a line of a script tells.
-use Rattle.std.specs.Prelude.{ℕ, Bool, true, ◌==◌, not, if◌then◌else◌, List, [], ◌∷◌, slice_index, Option, Some, None}
+use Rattle.std.specs.Prelude.{ℕ, ◌==◌, not, if◌then◌else◌, List, ◌∷◌, slice_index, Option, Some, None}
 use Rattle.std.specs.Str.{is_utf8}
 use Rattle.desk_types.specs.declared.call.Call.{Call}
 use Rattle.script_api.specs.declared.command.CallWord.{CallWord}
@@ -7,15 +7,10 @@ use Rattle.script_api.specs.declared.command.OtherWord.{OtherWord}
 use Rattle.script_api.specs.declared.line.ScriptLine.{ScriptLine}
 use Rattle.script_api.specs.declared.line.ScriptLine.TheVariants.{Skipped, Timed, NotBuilt, Bad}
 use Rattle.script_api.specs.Number.{number}
-use Rattle.script_api.specs.Fields.{fields, trimmed, behind_first}
+use Rattle.script_api.specs.Fields.{fields, is_skipped, trimmed, behind_first}
 use Rattle.script_api.specs.Command.{call_named, other_named}
 use Rattle.script_api.specs.CallForm.{call_told}
 use Rattle.script_api.specs.OtherForm.{is_in_form}
-
--- whether a line is passed over: it is empty or begins with `#`
-abbrev pub is_skipped : List ℕ → Bool
-is_skipped [] = true
-is_skipped (byte ∷ more) = byte == 35
 
 -- a call at its moment
 abbrev pub timed : ℕ → Option Call → ScriptLine

@@ -1,7 +1,17 @@
-//! The fields of a text, which spaces part, and the texts behind them.
+//! The fields of a text, which spaces part, and the texts behind them; lines that are passed over.
 
 ghost use Rattle.std.specs.Prelude.{◌≡◌, ◌≢◌, ◌<◌, ◌∷◌, [], length, IfSome, MatchOption};
-ghost use Rattle.script_api.specs.Fields.{fields, unspaced, trimmed, behind_first, behind_third, behind_fifth};
+ghost use Rattle.script_api.specs.Fields.{fields, is_skipped as skips, unspaced, trimmed, behind_first, behind_third, behind_fifth};
+
+/// Whether a line is passed over: it is empty or begins with `#`.
+pub fn is_skipped(line: &[u8]) -> bool
+    ensures { result ≡ skips line.now }
+{
+    match line {
+        [] => true,
+        [byte, ..] => *byte == b'#',
+    }
+}
 
 /// The text without the spaces in front.
 pub fn without_spaces(text: &str) -> &str

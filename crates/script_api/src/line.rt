@@ -2,11 +2,11 @@
 
 ghost use Rattle.std.specs.Prelude.{◌≡◌, IfOk, Some, None};
 ghost use Rattle.script_api.specs.Fields.{fields};
-ghost use Rattle.script_api.specs.Script.{is_skipped as skips, script_line, told_by_text as text_tells, not_told as other_tells};
+ghost use Rattle.script_api.specs.Script.{script_line, told_by_text as text_tells, not_told as other_tells};
 
 use crate::call::call_told;
 use crate::command::{OtherWord, call_word, other_word};
-use crate::fields::{first_field, without_end_spaces};
+use crate::fields::{first_field, is_skipped, without_end_spaces};
 use crate::number::number;
 use crate::other::is_in_form;
 use desk_types::Call;
@@ -47,16 +47,6 @@ pub fn read_line(alloc: Global, line: &[u8]) -> Result<ScriptLine, NoMemory>
         return Ok(ScriptLine::Bad);
     }
     told_by_text(alloc, without_end_spaces(text))
-}
-
-/// Whether a line is passed over: it is empty or begins with `#`.
-fn is_skipped(line: &[u8]) -> bool
-    ensures { result ≡ skips line.now }
-{
-    match line {
-        [] => true,
-        [byte, ..] => *byte == b'#',
-    }
 }
 
 /// What a text without spaces at its ends tells.

@@ -1,6 +1,4 @@
 -- At each moment of a desk's history the budgets hold and the pages are fair.
-use Rattle.std.proofs.Common.{◌≡◌, ℕ, List, ◌++◌}
-use Rattle.desk_types.specs.declared.entry.Entry.{Entry}
 use Rattle.desk_types.specs.Run.{run}
 use Rattle.desk_types.specs.State.{State, empty}
 use Rattle.desk_types.specs.Step.{at_moment}

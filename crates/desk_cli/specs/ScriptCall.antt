@@ -5,7 +5,6 @@ use Rattle.desk_types.specs.Eligible.{entrants_for}
 use Rattle.desk_types.specs.LedgerLaws.{IsFairPage, StaysWithinBudgets}
 use Rattle.desk_types.specs.Page.{page}
 use Rattle.desk_types.specs.Run.{run}
-use Rattle.desk_types.specs.State.{State}
 use Rattle.desk_types.specs.Step.{at_moment}
 use Rattle.desk_core.specs.DeskValue.{DeskValue, opening}
 use Rattle.script_api.specs.declared.ending.ScriptEnd.{ScriptEnd}

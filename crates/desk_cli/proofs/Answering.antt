@@ -7,8 +7,8 @@ use Rattle.desk_io.specs.Lines.{lines}
 use Rattle.desk_io.specs.Writing.{Appends, IsProperPrefix}
 use Rattle.desk_io.proofs.Appending.{Appends_more}
 use Rattle.desk_cli.specs.declared.answer.Answer.{Answer}
-use Rattle.desk_cli.specs.declared.fault.AuctionFault.{AuctionFault}
-use Rattle.desk_cli.specs.declared.fault.AuctionFault.TheVariants.{BadLine, LongLine, TooManyLines}
+use Rattle.desk_cli.specs.declared.fault.LineFault.{LineFault}
+use Rattle.desk_cli.specs.declared.fault.LineFault.TheVariants.{BadLine, LongLine, TooManyLines}
 use Rattle.desk_cli.specs.declared.fault.ReadEnd.{ReadEnd}
 use Rattle.desk_cli.specs.declared.fault.ReadEnd.TheVariants.{Fault}
 use Rattle.desk_cli.specs.Ending.{ReadsAs, IsAuctionOutcome, IsJudged, IsSaid, IsWritten}
@@ -26,7 +26,7 @@ same_outcome : (answer : Answer) (output : List ℕ) (status : ℕ) → string_b
 same_outcome answer output status text is = cc
 
 -- the answer is that of what the bytes tell
-pub judged-answer : {E : Type 0} (left : Option (List ℕ)) (faults faults_now : ℕ) (told : Result AuctionValue AuctionFault) (result : Result Answer E) →
+pub judged-answer : {E : Type 0} (left : Option (List ℕ)) (faults faults_now : ℕ) (told : Result AuctionValue LineFault) (result : Result Answer E) →
     IfSome left (λ bytes. told_by (lines bytes) ≡ told) →
     IfOk result (λ answer. string_bytes answer.text ≡ (outcome_of told).output) → IfOk result (λ answer. answer.status ≡ (outcome_of told).status) →
     IfOk result (λ answer. IsAuctionOutcome left faults faults_now (answered answer))
@@ -34,7 +34,7 @@ judged-answer left faults faults_now told (Ok answer) tells text status =
     inr (record { told = told; is = same_outcome answer (outcome_of told).output (outcome_of told).status text status; bytes_tell = tells })
 judged-answer left faults faults_now told (Err e) tells text status = tt
 
-pub fault-tells : (left : Option (List ℕ)) (end : ReadEnd) (fault : AuctionFault) → end ≡ Fault fault →
+pub fault-tells : (left : Option (List ℕ)) (end : ReadEnd) (fault : LineFault) → end ≡ Fault fault →
     IfSome left (λ bytes. ReadsAs (told_by (lines bytes)) (Err end)) → IfSome left (λ bytes. told_by (lines bytes) ≡ Err fault)
 fault-tells left end fault is reads = subst (λ e. IfSome left (λ bytes. ReadsAs (told_by (lines bytes)) (Err e))) is reads
 
@@ -50,7 +50,7 @@ pub other-status : {E : Type 0} (P : Type 0) (status : ℕ) (result : Result Ans
 other-status P status (Ok answer) other is = λ zero. absurd (other (sym is ∙ zero))
 other-status P status (Err e) other is = tt
 
-pub fault-status_is_not_0 : (fault : AuctionFault) → fault_status fault ≢ 0
+pub fault-status_is_not_0 : (fault : LineFault) → fault_status fault ≢ 0
 unfolding fault_status
 fault-status_is_not_0 (BadLine number) = λ e. cc
 fault-status_is_not_0 (LongLine number) = λ e. cc

@@ -6,9 +6,9 @@ use Rattle.std.specs.Prelude.{◌||◌, Option, Some, None, Result, not, nat_le,
 use Rattle.std.specs.List.{list_any, filter_map}
 use Rattle.desk_types.specs.AdValue.{AdValue, is_same_line}
 use Rattle.desk_io.specs.Lines.{Line}
-use Rattle.desk_cli.specs.declared.limits.TheConstants.{LINE_MAX, LINES_MAX}
-use Rattle.desk_cli.specs.declared.fault.AuctionFault.{AuctionFault}
-use Rattle.desk_cli.specs.declared.fault.AuctionFault.TheVariants.{LongLine, TooManyLines}
+use Rattle.script_api.specs.declared.limits.TheConstants.{LINE_MAX, LINES_MAX}
+use Rattle.desk_cli.specs.declared.fault.LineFault.{LineFault}
+use Rattle.desk_cli.specs.declared.fault.LineFault.TheVariants.{LongLine, TooManyLines}
 use Rattle.desk_cli.specs.declared.form.AdLine.{AdLine}
 use Rattle.desk_cli.specs.declared.form.LineName.{LineName}
 use Rattle.desk_cli.specs.HeadingValue.{HeadingValue}
@@ -74,7 +74,7 @@ spoken-more before line =
     ∙ ap (λ rest. spoken before ++ rest) (text_by-not (is_skipped line.text) line.text))
 
 -- a fault that is none leaves none behind two tests
-none_behind : (a b : Bool) (f g : AuctionFault) (x : Option AuctionFault) → cond a (Some f) (cond b (Some g) x) ≡ None → x ≡ None
+none_behind : (a b : Bool) (f g : LineFault) (x : Option LineFault) → cond a (Some f) (cond b (Some g) x) ≡ None → x ≡ None
 none_behind true b f g x h = cc
 none_behind false true f g x h = cc
 none_behind false false f g x h = h
@@ -172,10 +172,10 @@ end-same [] number h = refl
 end-same (heading ∷ ads) number h = rw h.1 refl
 
 -- the whole of the lines behind some lines, by what the next one's fault is
-unfoldable whole : List Line → Result AuctionValue AuctionFault
+unfoldable whole : List Line → Result AuctionValue LineFault
 whole lines = auction_of (length lines + 1) (spoken lines)
 
-next-by : (before rest : List Line) (line : Line) (fault : Option AuctionFault) → HasHeading (spoken before) → fault_at before line ≡ fault →
+next-by : (before rest : List Line) (line : Line) (fault : Option LineFault) → HasHeading (spoken before) → fault_at before line ≡ fault →
     (HasHeading (spoken (before ++ line ∷ [])) →
     judged_rest (so_far_of (spoken (before ++ line ∷ []))) (length (before ++ line ∷ [])) rest ≡ unless_fault (first_fault (before ++ line ∷ []) rest) (whole ((before ++ line ∷ []) ++ rest))) →
     unless_fault fault (judged_rest (step (so_far_of (spoken before)) line.text) (length before + 1) rest)

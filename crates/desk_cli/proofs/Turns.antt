@@ -7,10 +7,10 @@ use Rattle.desk_io.specs.Lines.{Line, lines, first_line, after_first_line}
 use Rattle.desk_io.specs.NextLine.{ahead, IsFirstLine}
 use Rattle.desk_io.specs.Reader.{ReaderValue}
 use Rattle.desk_io.proofs.LineLaws.{lines-cons, lines-nil, first_line-last}
-use Rattle.desk_cli.specs.declared.limits.TheConstants.{LINE_MAX, LINES_MAX}
+use Rattle.script_api.specs.declared.limits.TheConstants.{LINE_MAX, LINES_MAX}
 use Rattle.desk_cli.specs.declared.auction.Auction.{Auction}
-use Rattle.desk_cli.specs.declared.fault.AuctionFault.{AuctionFault}
-use Rattle.desk_cli.specs.declared.fault.AuctionFault.TheVariants.{LongLine, TooManyLines}
+use Rattle.desk_cli.specs.declared.fault.LineFault.{LineFault}
+use Rattle.desk_cli.specs.declared.fault.LineFault.TheVariants.{LongLine, TooManyLines}
 use Rattle.desk_cli.specs.declared.fault.ReadEnd.{ReadEnd}
 use Rattle.desk_cli.specs.declared.fault.ReadEnd.TheVariants.{Fault, ReadFault, NoMemory}
 use Rattle.desk_cli.specs.Ending.{ReadEndCause, ReadsAs}
@@ -52,7 +52,7 @@ line-turn reading number text (Some bytes) from to first fault =
     ap Some (rest-cons reading (number - 1) bytes first.there ∙ rw (clean, ← first.same, same) refl)
 
 -- a line with a fault
-fault-turn : (reading : SoFar) (number : ℕ) (text : List ℕ) (fault : AuctionFault) (before : Option (List ℕ)) → 1 ≤ number → number ≤ LINES_MAX →
+fault-turn : (reading : SoFar) (number : ℕ) (text : List ℕ) (fault : LineFault) (before : Option (List ℕ)) → 1 ≤ number → number ≤ LINES_MAX →
     IfSome before (λ bytes. IsFirstLine LINE_MAX bytes text) → fault_now reading number text ≡ Some fault →
     IfSome before (λ bytes. told_from reading number bytes ≡ Err fault)
 fault-turn reading number text fault None from to first found = tt
@@ -94,7 +94,7 @@ many-turn reading number (Some bytes) many some =
     rest-cons reading (number - 1) bytes some ∙ rw (fault-many reading (number - 1) (first_line bytes) few) refl
 
 -- what holds of what the bytes tell, where they are told
-mapped : (f : List ℕ → Result AuctionValue AuctionFault) (x : Result AuctionValue AuctionFault) (before : Option (List ℕ)) →
+mapped : (f : List ℕ → Result AuctionValue LineFault) (x : Result AuctionValue LineFault) (before : Option (List ℕ)) →
     IfSome before (λ bytes. f bytes ≡ x) → IfSome (option_map f before) (λ told. told ≡ x)
 mapped f x None h = tt
 mapped f x (Some bytes) h = h
@@ -108,7 +108,7 @@ first-is_some max text None first = tt
 first-is_some max text (Some bytes) first = first.there
 
 -- the ways of a turn: a line without a fault, a line with one, the end, and a line that is too long
-pub turned-line : (reading : SoFar) (number : ℕ) (text : List ℕ) (max : ℕ) (before after : Option (List ℕ)) (at_end : Result AuctionValue AuctionFault) →
+pub turned-line : (reading : SoFar) (number : ℕ) (text : List ℕ) (max : ℕ) (before after : Option (List ℕ)) (at_end : Result AuctionValue LineFault) →
     max ≡ LINE_MAX → 1 ≤ number → number ≤ LINES_MAX → after ≡ option_map after_first_line before →
     IfSome before (λ bytes. IsFirstLine max bytes text) → fault_now reading number text ≡ None →
     Turned (option_map (told_from reading number) before) (option_map (told_from (step reading text) (number + 1)) after) at_end (Ok true)
@@ -116,7 +116,7 @@ turned-line reading number text max before after at_end is from to taken first c
     let first' : IfSome before (λ bytes. IsFirstLine LINE_MAX bytes text) = rw is at first in
     line-turn reading number text before from to first' clean ∙ ap (option_map (told_from (step reading text) (number + 1))) (sym taken)
 
-pub turned-ended : (reading : SoFar) (number : ℕ) (text : List ℕ) (max : ℕ) (before : Option (List ℕ)) (after : Option (Result AuctionValue AuctionFault)) (at_end : Result AuctionValue AuctionFault) (end : ReadEnd) →
+pub turned-ended : (reading : SoFar) (number : ℕ) (text : List ℕ) (max : ℕ) (before : Option (List ℕ)) (after : Option (Result AuctionValue LineFault)) (at_end : Result AuctionValue LineFault) (end : ReadEnd) →
     max ≡ LINE_MAX → 1 ≤ number → number ≤ LINES_MAX →
     IfSome before (λ bytes. IsFirstLine max bytes text) → EndsBy (fault_now reading number text) end →
     Turned (option_map (told_from reading number) before) after at_end (Err end)
@@ -125,13 +125,13 @@ turned-ended reading number text max before after at_end (Fault fault) is from t
 turned-ended reading number text max before after at_end ReadFault is from to first ends = tt
 turned-ended reading number text max before after at_end NoMemory is from to first ends = tt
 
-pub turned-end : (reading : SoFar) (number : ℕ) (before : Option (List ℕ)) (after : Option (Result AuctionValue AuctionFault)) → 1 ≤ number →
+pub turned-end : (reading : SoFar) (number : ℕ) (before : Option (List ℕ)) (after : Option (Result AuctionValue LineFault)) → 1 ≤ number →
     IfSome before (λ bytes. bytes ≡ []) →
     Turned (option_map (told_from reading number) before) after (end_of reading.heading number reading.eligible) (Ok false)
 turned-end reading number before after from none =
     mapped (told_from reading number) (end_of reading.heading number reading.eligible) before (end-turn reading number before from none)
 
-pub turned-long : (reading : SoFar) (number max : ℕ) (before : Option (List ℕ)) (after : Option (Result AuctionValue AuctionFault)) (at_end : Result AuctionValue AuctionFault) →
+pub turned-long : (reading : SoFar) (number max : ℕ) (before : Option (List ℕ)) (after : Option (Result AuctionValue LineFault)) (at_end : Result AuctionValue LineFault) →
     max ≡ LINE_MAX → 1 ≤ number → number ≤ LINES_MAX → IfSome before (λ bytes. max < (first_line bytes).size) →
     Turned (option_map (told_from reading number) before) after at_end (Err (Fault (LongLine number)))
 turned-long reading number max before after at_end is from to long =
@@ -147,23 +147,23 @@ none_left reader None none = tt
 none_left reader (Some bytes) none = nil_behind reader.held bytes none
 
 -- what the turns so far told leads to what the whole tells
-tells-from : (whole : Result AuctionValue AuctionFault) (rest : Option (Result AuctionValue AuctionFault)) (reading : SoFar) (result : Result ℕ ReadEnd) →
+tells-from : (whole : Result AuctionValue LineFault) (rest : Option (Result AuctionValue LineFault)) (reading : SoFar) (result : Result ℕ ReadEnd) →
     Some whole ≡ rest → IfSome rest (λ told. Tells told reading result) → Tells whole reading result
 tells-from whole None reading result same tells = cc
 tells-from whole (Some told) reading result same tells = let e : told ≡ whole = cc in subst (λ t. Tells t reading result) e tells
 
-pub tells-whole : (f : List ℕ → Result AuctionValue AuctionFault) (whole : Option (List ℕ)) (rest : Option (Result AuctionValue AuctionFault)) (reading : SoFar) (result : Result ℕ ReadEnd) →
+pub tells-whole : (f : List ℕ → Result AuctionValue LineFault) (whole : Option (List ℕ)) (rest : Option (Result AuctionValue LineFault)) (reading : SoFar) (result : Result ℕ ReadEnd) →
     option_map f whole ≡ rest → IfSome rest (λ told. Tells told reading result) → IfSome whole (λ bytes. Tells (f bytes) reading result)
 tells-whole f None rest reading result same tells = tt
 tells-whole f (Some bytes) rest reading result same tells = tells-from (f bytes) rest reading result same tells
 
 -- a turn that was the last one
-pub tells-end : (before after : Option (Result AuctionValue AuctionFault)) (reading : SoFar) (number : ℕ) →
+pub tells-end : (before after : Option (Result AuctionValue LineFault)) (reading : SoFar) (number : ℕ) →
     Turned before after (end_of reading.heading number reading.eligible) (Ok false) → IfSome before (λ told. Tells told reading (Ok number))
 tells-end None after reading number turned = tt
 tells-end (Some told) after reading number turned = turned
 
-pub tells-error : (before after : Option (Result AuctionValue AuctionFault)) (at_end : Result AuctionValue AuctionFault) (reading : SoFar) (end : ReadEnd) →
+pub tells-error : (before after : Option (Result AuctionValue LineFault)) (at_end : Result AuctionValue LineFault) (reading : SoFar) (end : ReadEnd) →
     Turned before after at_end (Err end) → IfSome before (λ told. Tells told reading (Err end))
 tells-error None after at_end reading end turned = tt
 tells-error (Some told) after at_end reading (Fault fault) turned = turned
@@ -189,17 +189,17 @@ tells-there before reading number from none =
     mapped (told_from reading number) (end_of reading.heading number reading.eligible) before (end-turn reading number before from none)
 
 -- before a turn, the whole is told by what is kept and what is ahead
-pub record IsAt (start now : Option (Result AuctionValue AuctionFault)) (longest faults faults_now : ℕ) : Type 0 where
+pub record IsAt (start now : Option (Result AuctionValue LineFault)) (longest faults faults_now : ℕ) : Type 0 where
   pub judged : start ≡ now
   pub max : longest ≡ LINE_MAX
   pub rose : faults ≤ faults_now
 
 -- a reading ends as its lines tell
-pub reads-from : (told : Result AuctionValue AuctionFault) (reading : SoFar) (number : ℕ) (result : Result Auction ReadEnd) →
+pub reads-from : (told : Result AuctionValue LineFault) (reading : SoFar) (number : ℕ) (result : Result Auction ReadEnd) →
     Tells told reading (Ok number) → ReadsAs (end_of reading.heading number reading.eligible) result → ReadsAs told result
 reads-from told reading number result tells reads = rw tells reads
 
-pub reads-error : (told : Result AuctionValue AuctionFault) (reading : SoFar) (end : ReadEnd) → Tells told reading (Err end) → ReadsAs told (Err end)
+pub reads-error : (told : Result AuctionValue LineFault) (reading : SoFar) (end : ReadEnd) → Tells told reading (Err end) → ReadsAs told (Err end)
 reads-error told reading (Fault fault) tells = tells
 reads-error told reading ReadFault tells = tt
 reads-error told reading NoMemory tells = tt

@@ -3,7 +3,7 @@ use Rattle.std.specs.Prelude.{◌≡◌, ℕ, ◌⊎◌, List, [], ◌∷◌, co
 use Rattle.desk_io.specs.Faults.{Rose}
 use Rattle.desk_io.specs.Lines.{lines}
 use Rattle.desk_io.specs.Writing.{Appends, IsProperPrefix}
-use Rattle.desk_cli.specs.declared.fault.AuctionFault.{AuctionFault}
+use Rattle.desk_cli.specs.declared.fault.LineFault.{LineFault}
 use Rattle.desk_cli.specs.declared.fault.ReadEnd.{ReadEnd}
 use Rattle.desk_cli.specs.declared.fault.ReadEnd.TheVariants.{Fault, ReadFault, NoMemory}
 use Rattle.desk_cli.specs.declared.auction.Auction.{Auction}
@@ -14,7 +14,7 @@ abbrev pub auction_value : Auction → AuctionValue
 auction_value a = record { heading = a.heading; ads = a.ads.items }
 
 -- reading ended with what the bytes tell, or by a fault of reading, or for want of memory
-abbrev pub ReadsAs : Result AuctionValue AuctionFault → Result Auction ReadEnd → Type 0
+abbrev pub ReadsAs : Result AuctionValue LineFault → Result Auction ReadEnd → Type 0
 ReadsAs told (Ok found) = told ≡ Ok (auction_value found)
 ReadsAs told (Err (Fault fault)) = told ≡ Err fault
 ReadsAs told (Err ReadFault) = Unit {0}
@@ -43,7 +43,7 @@ pub record IsReadFault (faults faults_now : ℕ) (outcome : Outcome) : Type 0 wh
 
 -- the outcome is that of what the input's bytes tell, where the input tells them
 pub record IsJudged (left : Option (List ℕ)) (outcome : Outcome) : Type 0 where
-  pub told : Result AuctionValue AuctionFault
+  pub told : Result AuctionValue LineFault
   pub is : outcome ≡ outcome_of told
   pub bytes_tell : IfSome left (λ bytes. told_by (lines bytes) ≡ told)
 

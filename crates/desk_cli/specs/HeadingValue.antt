@@ -1,7 +1,6 @@
 -- The heading of an auction as contracts see it.
-use Rattle.std.specs.Prelude.{ℕ, ◌≤◌}
-use Rattle.desk_types.specs.AdValue.{IsBid}
-use Rattle.desk_types.specs.declared.limits.TheConstants.{FLOOR_MAX, PLACES_MAX}
+use Rattle.std.specs.Prelude.{ℕ}
+use Rattle.desk_types.specs.SettingsValue.{IsReserve, IsFloor, IsPlaces}
 
 -- the reserve in cents, the floor as a score, and the number of places
 pub record HeadingValue : Type 0 where
@@ -9,12 +8,6 @@ pub record HeadingValue : Type 0 where
   pub floor : ℕ
   pub places : ℕ
 
-abbrev pub IsFloor : ℕ → Type 0
-IsFloor floor = floor ≤ FLOOR_MAX
-
-abbrev pub IsPlaces : ℕ → Type 0
-IsPlaces places = (1 ≤ places) × (places ≤ PLACES_MAX)
-
 -- a heading with each number in range
 abbrev pub IsHeading : HeadingValue → Type 0
-IsHeading h = IsBid h.reserve × IsFloor h.floor × IsPlaces h.places
+IsHeading h = IsReserve h.reserve × IsFloor h.floor × IsPlaces h.places

@@ -4,8 +4,8 @@ use Rattle.desk_types.specs.AdValue.{AdValue}
 use Rattle.desk_types.specs.Page.{entrants, place, page}
 use Rattle.desk_types.specs.Price.{price}
 use Rattle.desk_io.specs.Lines.{lines}
-use Rattle.desk_cli.specs.declared.fault.AuctionFault.{AuctionFault}
-use Rattle.desk_cli.specs.declared.fault.AuctionFault.TheVariants.{BadLine, LongLine, TooManyLines}
+use Rattle.desk_cli.specs.declared.fault.LineFault.{LineFault}
+use Rattle.desk_cli.specs.declared.fault.LineFault.TheVariants.{BadLine, LongLine, TooManyLines}
 use Rattle.desk_cli.specs.Judged.{AuctionValue, told_by}
 
 -- what is written, and the status
@@ -14,12 +14,12 @@ pub record Outcome : Type 0 where
   pub status : ℕ
 
 -- the line of a fault
-unfoldable pub fault_text : AuctionFault → List ℕ
+unfoldable pub fault_text : LineFault → List ℕ
 fault_text (BadLine number) = codes "bad line " ++ (decimal number ++ codes "\n")
 fault_text (LongLine number) = codes "long line " ++ (decimal number ++ codes "\n")
 fault_text TooManyLines = codes "too many lines\n"
 
-unfoldable pub fault_status : AuctionFault → ℕ
+unfoldable pub fault_status : LineFault → ℕ
 fault_status (BadLine number) = 8
 fault_status (LongLine number) = 9
 fault_status TooManyLines = 9
@@ -41,10 +41,10 @@ entrant_text auction ad =
 unfoldable pub page_text : AuctionValue → List ℕ
 page_text auction = flat_map (entrant_text auction) (page (entrants auction.ads) auction.heading.places) ++ codes "end\n"
 
-abbrev pub fault_outcome : AuctionFault → Outcome
+abbrev pub fault_outcome : LineFault → Outcome
 fault_outcome fault = record { output = fault_text fault; status = fault_status fault }
 
-abbrev pub outcome_of : Result AuctionValue AuctionFault → Outcome
+abbrev pub outcome_of : Result AuctionValue LineFault → Outcome
 outcome_of (Ok auction) = record { output = page_text auction; status = 0 }
 outcome_of (Err fault) = fault_outcome fault
 

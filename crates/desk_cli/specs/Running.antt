@@ -3,9 +3,10 @@ use Rattle.std.specs.Prelude.{◌≡◌, ℕ, ◌<◌, ◌+◌, ◌-◌, Bool, t
 use Rattle.std.specs.List.{list_any}
 use Rattle.desk_types.specs.AdValue.{AdValue}
 use Rattle.desk_io.specs.Lines.{Line, lines}
-use Rattle.desk_cli.specs.declared.limits.TheConstants.{ADS_MAX, LINE_MAX, LINES_MAX}
-use Rattle.desk_cli.specs.declared.fault.AuctionFault.{AuctionFault}
-use Rattle.desk_cli.specs.declared.fault.AuctionFault.TheVariants.{BadLine, LongLine, TooManyLines}
+use Rattle.script_api.specs.declared.limits.TheConstants.{LINE_MAX, LINES_MAX}
+use Rattle.desk_cli.specs.declared.limits.TheConstants.{ADS_MAX}
+use Rattle.desk_cli.specs.declared.fault.LineFault.{LineFault}
+use Rattle.desk_cli.specs.declared.fault.LineFault.TheVariants.{BadLine, LongLine, TooManyLines}
 use Rattle.desk_cli.specs.declared.fault.ReadEnd.{ReadEnd}
 use Rattle.desk_cli.specs.declared.fault.ReadEnd.TheVariants.{Fault, ReadFault, NoMemory}
 use Rattle.desk_cli.specs.declared.form.AdLine.{AdLine}
@@ -36,13 +37,13 @@ kept_ads true line = line.ad ∷ []
 kept_ads false line = []
 
 -- the fault of the numbered line that names an ad, behind the names so far: it stands there, or is one too many
-unfoldable pub name_fault : List LineName → ℕ → LineName → Option AuctionFault
+unfoldable pub name_fault : List LineName → ℕ → LineName → Option LineFault
 name_fault names number name =
     if list_any (is_same_name name) names then Some (BadLine number)
     else (if nat_le ADS_MAX (length names) then Some TooManyLines else None)
 
 -- the fault of the numbered line of an ad, and what is kept after it
-unfoldable pub ad_fault_now : SoFar → ℕ → Option AdLine → Option AuctionFault
+unfoldable pub ad_fault_now : SoFar → ℕ → Option AdLine → Option LineFault
 ad_fault_now so_far number None = Some (BadLine number)
 ad_fault_now so_far number (Some line) = name_fault so_far.names number (name_of line)
 
@@ -52,7 +53,7 @@ with_ad heading so_far (Some line) =
     record { heading = so_far.heading; names = so_far.names ++ name_of line ∷ []; eligible = so_far.eligible ++ kept_ads (is_eligible heading line) line }
 
 -- the fault of the numbered line that is not passed over, and what is kept after it
-unfoldable pub spoken_fault : Option HeadingValue → SoFar → ℕ → List ℕ → Option AuctionFault
+unfoldable pub spoken_fault : Option HeadingValue → SoFar → ℕ → List ℕ → Option LineFault
 spoken_fault None so_far number text = heading_fault number (heading_in text)
 spoken_fault (Some heading) so_far number text = ad_fault_now so_far number (ad_in text)
 
@@ -61,34 +62,34 @@ spoken_step None so_far text = record { heading = heading_in text; names = so_fa
 spoken_step (Some heading) so_far text = with_ad heading so_far (ad_in text)
 
 -- the fault of the numbered line by its text, and what is kept after it
-unfoldable pub fault_now : SoFar → ℕ → List ℕ → Option AuctionFault
+unfoldable pub fault_now : SoFar → ℕ → List ℕ → Option LineFault
 fault_now so_far number text = if is_skipped text then None else spoken_fault so_far.heading so_far number text
 
 unfoldable pub step : SoFar → List ℕ → SoFar
 step so_far text = if is_skipped text then so_far else spoken_step so_far.heading so_far text
 
 -- the auction, where the end stands in place of the numbered line
-abbrev pub end_of : Option HeadingValue → ℕ → List AdValue → Result AuctionValue AuctionFault
+abbrev pub end_of : Option HeadingValue → ℕ → List AdValue → Result AuctionValue LineFault
 end_of None number ads = Err (BadLine number)
 end_of (Some heading) number ads = Ok (record { heading = heading; ads = ads })
 
 -- the fault of the next line behind n lines, by what was kept
-unfoldable pub line_fault : SoFar → ℕ → Line → Option AuctionFault
+unfoldable pub line_fault : SoFar → ℕ → Line → Option LineFault
 line_fault so_far n line =
     if nat_le LINES_MAX n then Some TooManyLines
     else (if nat_lt LINE_MAX line.size then Some (LongLine (n + 1)) else fault_now so_far (n + 1) line.text)
 
 -- what is kept behind n lines and the lines that are left tell together
-unfoldable pub judged_rest : SoFar → ℕ → List Line → Result AuctionValue AuctionFault
+unfoldable pub judged_rest : SoFar → ℕ → List Line → Result AuctionValue LineFault
 judged_rest so_far n [] = end_of so_far.heading (n + 1) so_far.eligible
 judged_rest so_far n (line ∷ rest) = unless_fault (line_fault so_far n line) (judged_rest (step so_far line.text) (n + 1) rest)
 
 -- what is kept before the numbered line and the bytes from that line on tell together
-abbrev pub told_from : SoFar → ℕ → List ℕ → Result AuctionValue AuctionFault
+abbrev pub told_from : SoFar → ℕ → List ℕ → Result AuctionValue LineFault
 told_from so_far number bytes = judged_rest so_far (number - 1) (lines bytes)
 
 -- a turn took a line, after which the same is told as before it; or the end stands in place of the numbered line; or it ended the reading
-abbrev pub Turned : Option (Result AuctionValue AuctionFault) → Option (Result AuctionValue AuctionFault) → Result AuctionValue AuctionFault → Result Bool ReadEnd → Type 0
+abbrev pub Turned : Option (Result AuctionValue LineFault) → Option (Result AuctionValue LineFault) → Result AuctionValue LineFault → Result Bool ReadEnd → Type 0
 Turned before after at_end (Ok true) = before ≡ after
 Turned before after at_end (Ok false) = IfSome before (λ told. told ≡ at_end)
 Turned before after at_end (Err (Fault fault)) = IfSome before (λ told. told ≡ Err fault)
@@ -103,14 +104,14 @@ EndsThere ahead (Err ReadFault) = Unit {0}
 EndsThere ahead (Err NoMemory) = Unit {0}
 
 -- the lines tell what is kept at the end, which stands in place of the numbered line, or the fault
-abbrev pub Tells : Result AuctionValue AuctionFault → SoFar → Result ℕ ReadEnd → Type 0
+abbrev pub Tells : Result AuctionValue LineFault → SoFar → Result ℕ ReadEnd → Type 0
 Tells told so_far (Ok number) = told ≡ end_of so_far.heading number so_far.eligible
 Tells told so_far (Err (Fault fault)) = told ≡ Err fault
 Tells told so_far (Err ReadFault) = Unit {0}
 Tells told so_far (Err NoMemory) = Unit {0}
 
 -- the reading ended by this fault, or for want of memory
-abbrev pub EndsBy : Option AuctionFault → ReadEnd → Type 0
+abbrev pub EndsBy : Option LineFault → ReadEnd → Type 0
 EndsBy fault (Fault found) = fault ≡ Some found
 EndsBy fault ReadFault = ⊥
 EndsBy fault NoMemory = Unit {0}

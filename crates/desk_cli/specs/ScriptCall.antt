@@ -10,7 +10,7 @@ use Rattle.desk_core.specs.DeskValue.{DeskValue, opening}
 use Rattle.script_api.specs.declared.ending.ScriptEnd.{ScriptEnd}
 use Rattle.script_api.specs.declared.ending.ScriptEnd.TheVariants.{Ended, BadLine, LongLine, TooManyLines, NotBuilt, ReadFault, WriteFault, NoMemory}
 use Rattle.script_api.specs.ScriptRun.{EndCause, IsRun}
-use Rattle.desk_cli.specs.declared.fault.AuctionFault.TheVariants as line
+use Rattle.desk_cli.specs.declared.fault.LineFault.TheVariants as line
 use Rattle.desk_cli.specs.Ending.{IsWritten, read_fault_outcome}
 use Rattle.desk_cli.specs.Outcome.{Outcome, fault_outcome}
 

@@ -6,7 +6,7 @@ ghost use Rattle.desk_cli.specs.Outcome.{fault_text, fault_status, page_text as 
 ghost use Rattle.desk_cli.specs.Meets.{Meets};
 
 use crate::auction::Auction;
-use crate::fault::AuctionFault;
+use crate::fault::LineFault;
 use crate::page::page_text;
 use desk_io::{OutBuf, Sink};
 use std::alloc::{AllocError, Global};
@@ -32,20 +32,20 @@ pub fn page_answer(alloc: Global, auction: &Auction) -> Result<Answer, AllocErro
 
 /// The answer to an input that is no auction: a line that says why, with status 8 or 9.
 #[tactic(auto, unfolding(crate::specs::Outcome::fault_text, crate::specs::Outcome::fault_status))]
-pub fn fault_answer(alloc: Global, fault: AuctionFault) -> Result<Answer, AllocError>
+pub fn fault_answer(alloc: Global, fault: LineFault) -> Result<Answer, AllocError>
     ensures text { IfOk result (λ answer. string_bytes answer.text ≡ fault_text fault) }
     ensures status { IfOk result (λ answer. answer.status ≡ fault_status fault) }
 {
     match fault {
-        AuctionFault::BadLine(number) => Ok(Answer {
+        LineFault::BadLine(number) => Ok(Answer {
             text: format!(in alloc; "bad line {number}\n")?,
             status: 8,
         }),
-        AuctionFault::LongLine(number) => Ok(Answer {
+        LineFault::LongLine(number) => Ok(Answer {
             text: format!(in alloc; "long line {number}\n")?,
             status: 9,
         }),
-        AuctionFault::TooManyLines => Ok(Answer {
+        LineFault::TooManyLines => Ok(Answer {
             text: String::from_str(alloc, "too many lines\n")?,
             status: 9,
         }),

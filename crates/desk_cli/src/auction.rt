@@ -10,12 +10,12 @@ ghost use Rattle.desk_cli.specs.Judged.{told_by};
 ghost use Rattle.desk_cli.specs.Meets.{Meets};
 ghost use Rattle.desk_cli.specs.Running.{EndsThere, Tells, Turned, end_of, told_from};
 
-use crate::fault::{AuctionFault, ReadEnd};
+use crate::fault::{LineFault, ReadEnd};
 use crate::heading::Heading;
-use crate::limits::{LINE_MAX, LINES_MAX};
 use crate::reading::Reading;
 use desk_io::{LineGot, LineReader, Source};
 use desk_types::Ad;
+use script_api::limits::{LINE_MAX, LINES_MAX};
 use std::alloc::Global;
 
 /// An auction: its heading and its eligible ads, in the order of their lines.
@@ -87,7 +87,7 @@ fn take_line<S: Source>(
             Err(end) => Err(end),
         },
         LineGot::End => Ok(false),
-        LineGot::TooLong => Err(ReadEnd::Fault(AuctionFault::LongLine(number))),
+        LineGot::TooLong => Err(ReadEnd::Fault(LineFault::LongLine(number))),
         LineGot::ReadFault => Err(ReadEnd::ReadFault),
     }
 }
@@ -102,8 +102,8 @@ fn take_end<S: Source>(reader: &mut LineReader, input: &mut S) -> Result<(), Rea
 {
     match reader.next(input) {
         LineGot::End => Ok(()),
-        LineGot::Line => Err(ReadEnd::Fault(AuctionFault::TooManyLines)),
-        LineGot::TooLong => Err(ReadEnd::Fault(AuctionFault::TooManyLines)),
+        LineGot::Line => Err(ReadEnd::Fault(LineFault::TooManyLines)),
+        LineGot::TooLong => Err(ReadEnd::Fault(LineFault::TooManyLines)),
         LineGot::ReadFault => Err(ReadEnd::ReadFault),
     }
 }

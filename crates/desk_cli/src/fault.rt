@@ -1,13 +1,14 @@
-//! Why an input is no auction.
+//! What is wrong with the lines of an input.
 
-/// The fault of an input that is no auction. Lines are counted from 1.
+/// The first fault in the lines of an input. Lines are counted from 1.
 #[derive(Clone, Copy, Debug, PartialEq, Eq)]
-pub enum AuctionFault {
-    /// This line is in no form, or names the line of an earlier ad, or is missing as the heading.
+pub enum LineFault {
+    /// This line is in no form; of an auction, also where it names the line of an earlier ad, or is
+    /// missing as the heading.
     BadLine(u64),
     /// More than 4,096 bytes stand before the end of this line.
     LongLine(u64),
-    /// A line follows the 1,000,000th, or an ad the 10,000th.
+    /// A line follows the 1,000,000th, or an ad of an auction the 10,000th.
     TooManyLines,
 }
 
@@ -15,7 +16,7 @@ pub enum AuctionFault {
 #[derive(Clone, Copy, Debug, PartialEq, Eq)]
 pub enum ReadEnd {
     /// The input is no auction.
-    Fault(AuctionFault),
+    Fault(LineFault),
     /// A read failed.
     ReadFault,
     /// Want of memory.

@@ -2,7 +2,7 @@
 
 ghost use Rattle.std.specs.Prelude.{◌≡◌, IfSome};
 ghost use Rattle.desk_types.specs.AdValue.{IsBid, IsQuality};
-ghost use Rattle.desk_cli.specs.HeadingValue.{IsFloor, IsPlaces};
+ghost use Rattle.desk_types.specs.SettingsValue.{IsFloor, IsPlaces, IsReserve};
 ghost use Rattle.desk_cli.specs.Form.{ad_from, ad_in, has_outer_space as has_space_outside, heading_from, heading_in, name_from, name_in};
 
 use crate::heading::Heading;
@@ -79,7 +79,7 @@ pub fn heading_of(line: &[u8]) -> Option<Heading>
 
 /// The heading of three numbers, where each is told.
 fn made_heading(reserve: Option<u64>, floor: Option<u64>, places: Option<u64>) -> Option<Heading>
-    requires reserve { IfSome reserve IsBid }
+    requires reserve { IfSome reserve IsReserve }
     requires floor { IfSome floor IsFloor }
     requires places { IfSome places IsPlaces }
     ensures { result ≡ heading_from reserve floor places }

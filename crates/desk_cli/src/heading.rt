@@ -1,8 +1,7 @@
 //! What the first line of an auction tells.
 
 ghost use Rattle.std.specs.Prelude.{◌≡◌, ◌≤◌, ◌↔◌, IsSome, IfSome};
-ghost use Rattle.desk_types.specs.AdValue.{IsBid};
-ghost use Rattle.desk_cli.specs.HeadingValue.{IsFloor, IsPlaces};
+ghost use Rattle.desk_types.specs.SettingsValue.{IsReserve, IsFloor, IsPlaces};
 
 use desk_types::limits::{BID_MAX, BID_MIN, FLOOR_MAX, PLACES_MAX};
 use std::marker::Model;
@@ -31,7 +30,7 @@ impl Model for Heading {
 impl Heading {
     /// The heading of three numbers, each of which is in range.
     pub fn new(reserve: u64, floor: u64, places: u64) -> Heading
-        requires reserve { IsBid reserve }
+        requires reserve { IsReserve reserve }
         requires floor { IsFloor floor }
         requires places { IsPlaces places }
         ensures { result ≡ record { reserve = reserve; floor = floor; places = places } }
@@ -46,7 +45,7 @@ impl Heading {
     /// The least bid that is eligible, in cents.
     pub fn reserve(&self) -> u64
         ensures reserve { result ≡ self.now.reserve }
-        ensures in_range { IsBid result }
+        ensures in_range { IsReserve result }
     {
         self.reserve
     }

@@ -1,10 +1,4 @@
-//! The limits of an auction's text.
-
-/// The greatest length of a line, in bytes before its end.
-pub const LINE_MAX: u64 = 4_096;
-
-/// The most lines of an input.
-pub const LINES_MAX: u64 = 1_000_000;
+//! The limits of an auction's text; those of its lines are those of a script.
 
 /// The most ads of an auction.
 pub const ADS_MAX: u64 = 10_000;

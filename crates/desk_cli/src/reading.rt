@@ -9,7 +9,7 @@ ghost use Rattle.desk_cli.specs.Running.{EndsBy, ad_fault_now, fault_now, end_of
 ghost use Rattle.desk_cli.specs.Told.{is_eligible};
 
 use crate::auction::Auction;
-use crate::fault::{AuctionFault, ReadEnd};
+use crate::fault::{LineFault, ReadEnd};
 use crate::form::{AdLine, LineName, ad_of, heading_of};
 use crate::heading::Heading;
 use crate::limits::ADS_MAX;
@@ -82,7 +82,7 @@ impl Reading {
         ensures no_read_fault { IfErr result (λ end. end ≢ ReadEnd.ReadFault) }
     {
         match self.heading {
-            None => Err(ReadEnd::Fault(AuctionFault::BadLine(number))),
+            None => Err(ReadEnd::Fault(LineFault::BadLine(number))),
             Some(heading) => Ok(Auction {
                 heading,
                 ads: self.eligible,
@@ -98,7 +98,7 @@ impl Reading {
         ensures ended { IfErr result (EndsBy (heading_fault number (heading_in text.now))) }
     {
         match heading_of(text) {
-            None => Err(ReadEnd::Fault(AuctionFault::BadLine(number))),
+            None => Err(ReadEnd::Fault(LineFault::BadLine(number))),
             Some(heading) => {
                 self.heading = Some(heading);
                 Ok(())
@@ -114,7 +114,7 @@ impl Reading {
         ensures ended { IfErr result (EndsBy (ad_fault_now self.old number (ad_in text.now))) }
     {
         match ad_of(text) {
-            None => Err(ReadEnd::Fault(AuctionFault::BadLine(number))),
+            None => Err(ReadEnd::Fault(LineFault::BadLine(number))),
             Some(line) => {
                 note_name(&mut self.names, line.name(), number)?;
                 keep(&mut self.eligible, heading, &line)
@@ -132,10 +132,10 @@ fn note_name(names: &mut IndexSet<LineName>, name: LineName, number: u64) -> Res
     ensures ended { IfErr result (EndsBy (name_fault names.old.keys number name)) }
 {
     if names.contains(&name) {
-        return Err(ReadEnd::Fault(AuctionFault::BadLine(number)));
+        return Err(ReadEnd::Fault(LineFault::BadLine(number)));
     }
     if names.len() as u64 >= ADS_MAX {
-        return Err(ReadEnd::Fault(AuctionFault::TooManyLines));
+        return Err(ReadEnd::Fault(LineFault::TooManyLines));
     }
     match names.insert_full(name) {
         Ok(_) => Ok(()),

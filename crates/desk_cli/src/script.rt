@@ -8,7 +8,7 @@ ghost use Rattle.desk_cli.specs.Outcome.{Outcome, fault_outcome};
 ghost use Rattle.desk_cli.specs.ScriptCall.{IsFairThroughout, IsLastSaid, IsScriptServed, not_built_outcome};
 
 use crate::answer::{Answer, fault_answer, read_fault_answer, say};
-use crate::fault::AuctionFault;
+use crate::fault::LineFault;
 use desk_core::{Desk, Solo};
 use desk_io::{Sink, Source};
 use desk_types::Settings;
@@ -51,16 +51,16 @@ fn say_end<T: Sink>(alloc: Global, output: &mut T, end: ScriptEnd) -> u8
         ScriptEnd::Ended => 0,
         ScriptEnd::WriteFault => 4,
         ScriptEnd::NoMemory => 5,
-        ScriptEnd::BadLine(number) => say_fault(alloc, output, AuctionFault::BadLine(number)),
-        ScriptEnd::LongLine(number) => say_fault(alloc, output, AuctionFault::LongLine(number)),
-        ScriptEnd::TooManyLines => say_fault(alloc, output, AuctionFault::TooManyLines),
+        ScriptEnd::BadLine(number) => say_fault(alloc, output, LineFault::BadLine(number)),
+        ScriptEnd::LongLine(number) => say_fault(alloc, output, LineFault::LongLine(number)),
+        ScriptEnd::TooManyLines => say_fault(alloc, output, LineFault::TooManyLines),
         ScriptEnd::NotBuilt(number) => say_answer(alloc, output, not_built_answer(alloc, number)),
         ScriptEnd::ReadFault => say_answer(alloc, output, read_fault_answer(alloc)),
     }
 }
 
 /// Writes the line of a fault, and answers its status.
-fn say_fault<T: Sink>(alloc: Global, output: &mut T, fault: AuctionFault) -> u8
+fn say_fault<T: Sink>(alloc: Global, output: &mut T, fault: LineFault) -> u8
     ensures said { IsWritten (T.written output.old) (T.written output.new) (T.taken output.old) (T.taken output.new) (T.write_faults output.old) (T.write_faults output.new) (fault_outcome fault) result }
     ensures faults { T.write_faults output.old ≤ T.write_faults output.new }
 {

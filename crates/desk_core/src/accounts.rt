@@ -6,12 +6,11 @@ ghost use Rattle.desk_types.specs.Judged.{judged};
 ghost use Rattle.desk_core.specs.Ends.{IsAccepted, IsStop};
 ghost use Rattle.desk_core.specs.TableParts.{owner_refusal, place_refusal};
 
-use crate::fields::is_key;
 use crate::finds::{count_campaigns, fits_key, has_account, has_campaign};
 use crate::ledger::Ledger;
 use crate::stop::Stop;
 use desk_types::limits::{ACCOUNTS_MAX, BUDGET_MAX, BUDGET_MIN, CAMPAIGNS_MAX};
-use desk_types::{Account, BudgetSet, Campaign, Field, Refusal, Reply};
+use desk_types::{Account, BudgetSet, Campaign, Field, Refusal, Reply, is_key};
 use query_words::{NoMemory, Text, Twin};
 
 impl Ledger {

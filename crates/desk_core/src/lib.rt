@@ -8,7 +8,6 @@ mod accounts;
 mod click;
 mod desk;
 mod eligible;
-mod fields;
 mod finds;
 mod journal;
 mod ledger;

@@ -9,12 +9,11 @@ ghost use Rattle.desk_core.specs.Ends.{IsAccepted, IsStop};
 ghost use Rattle.desk_core.specs.TableParts.{bid_refusal, is_line_like, line_refusals};
 
 use crate::accounts::put;
-use crate::fields::is_headline;
 use crate::finds::count_lines;
 use crate::ledger::Ledger;
 use crate::stop::Stop;
 use desk_types::limits::{BID_MAX, BID_MIN, LINES_MAX, QUALITY_NEW};
-use desk_types::{Field, Line, LinkText, Refusal, Reply};
+use desk_types::{Field, Line, LinkText, Refusal, Reply, is_headline};
 use match_types::Pattern;
 use query_words::{Text, Twin};
 

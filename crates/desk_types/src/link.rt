@@ -1,9 +1,9 @@
 //! A link of a line, held without memory of its own.
 
-ghost use Rattle.std.specs.Prelude.{◌≡◌, ◌↔◌, ◌≤◌, length, IsTrue, IsSome, IfSome};
-ghost use Rattle.std.specs.List.{list_all};
-ghost use Rattle.desk_types.specs.Fields.{is_link, has_scheme, is_visible};
+ghost use Rattle.std.specs.Prelude.{◌≡◌, ◌↔◌, IsTrue, IsSome, IfSome};
+ghost use Rattle.desk_types.specs.Fields.{is_link};
 
+use crate::fields::is_link;
 use crate::limits::LINK_BYTES_MAX;
 use arrayvec::ArrayString;
 use query_words::{NoMemory, Twin};
@@ -47,43 +47,6 @@ impl LinkText {
     {
         self.text.as_str()
     }
-}
-
-/// Whether a text is a link.
-#[tactic(auto, unfolding(crate::specs::Fields::is_link))]
-fn is_link(text: &str) -> bool
-    ensures test { result ≡ is_link text.now }
-    ensures fits { IsTrue result → length text.now ≤ LINK_BYTES_MAX }
-{
-    let bytes = text.as_bytes();
-    if bytes.len() > LINK_BYTES_MAX {
-        return false;
-    }
-    if !has_scheme(bytes) {
-        return false;
-    }
-    are_visible(bytes)
-}
-
-/// Whether each of the bytes is a visible ASCII character.
-fn are_visible(bytes: &[u8]) -> bool
-    ensures { result ≡ list_all is_visible bytes.now }
-{
-    bytes.iter().all(|byte| is_visible(*byte))
-}
-
-/// Whether the bytes begin with a scheme of the web.
-fn has_scheme(text: &[u8]) -> bool
-    ensures { result ≡ has_scheme text.now }
-{
-    text.starts_with(b"http://") || text.starts_with(b"https://")
-}
-
-/// Whether a byte is a visible ASCII character.
-fn is_visible(byte: u8) -> bool
-    ensures { result ≡ is_visible byte }
-{
-    (0x21..=0x7E).contains(&byte)
 }
 
 impl Twin for LinkText {

@@ -95,6 +95,32 @@ fn a_link_is_visible_and_has_a_scheme(rt: HostRuntime) -> Result<(), Fail> {
 }
 
 #[test]
+fn keys_and_headlines_have_their_forms(rt: HostRuntime) -> Result<(), Fail> {
+    let longest_key = "k".repeat(rt.alloc(), 64)?;
+    let longer_key = "k".repeat(rt.alloc(), 65)?;
+    let longest_headline = "h".repeat(rt.alloc(), 90)?;
+    let longer_headline = "h".repeat(rt.alloc(), 91)?;
+    let cases = [
+        ("nothing", "", false, false),
+        ("seven bytes", "secret0", false, true),
+        ("eight bytes", "secret01", true, true),
+        ("64 bytes", longest_key.as_str(), true, true),
+        ("65 bytes", longer_key.as_str(), false, true),
+        ("90 bytes", longest_headline.as_str(), false, true),
+        ("91 bytes", longer_headline.as_str(), false, false),
+        ("a space", "red shoes", false, true),
+        ("beyond ASCII", "caf\u{E9}-shoes", false, true),
+        ("a tab", "red\tshoes", false, false),
+        ("the last control character", "red\u{7F}shoes", false, false),
+    ];
+    for (case, text, key, headline) in cases {
+        assert_eq!(rt; is_key(text), key, "{case}, as a key");
+        assert_eq!(rt; is_headline(text), headline, "{case}, as a headline");
+    }
+    Ok(())
+}
+
+#[test]
 fn settings_are_in_range(rt: HostRuntime) {
     let cases = [
         ("the least", (1, 0, 1, 1, 1, 1), true),

@@ -2,6 +2,7 @@
 use crate::{MatchType, Pattern, PatternError, matches};
 use query_words::{Twin, Words, words};
 use std::alloc::Global;
+use std::process::Abort;
 use std::test::Fail;
 
 /// Whether the query meets the pattern, each by its text.
@@ -11,19 +12,22 @@ fn meets(alloc: Global, pattern: &str, query: &str) -> Result<bool, Fail> {
     Ok(matches(pattern.kind(), pattern.words(), &query))
 }
 
+/// A query, and whether it meets `tennis shoes` as an exact, a phrase and a broad pattern.
+const MEETINGS: [(&str, bool, bool, bool); 9] = [
+    ("Tennis SHOES red", false, true, true),
+    ("shoes tennis", false, false, true),
+    ("tennis-shoes!", true, true, true),
+    ("red tennis shoes", false, true, true),
+    ("tennis red shoes", false, false, true),
+    ("tennis", false, false, false),
+    ("tennis shoe", false, false, false),
+    ("tabletennis shoes", false, false, false),
+    ("", false, false, false),
+];
+
 #[test]
 fn queries_meet_patterns_by_their_kind(rt: HostRuntime) -> Result<(), Fail> {
-    for (query, exact, phrase, broad) in [
-        ("Tennis SHOES red", false, true, true),
-        ("shoes tennis", false, false, true),
-        ("tennis-shoes!", true, true, true),
-        ("red tennis shoes", false, true, true),
-        ("tennis red shoes", false, false, true),
-        ("tennis", false, false, false),
-        ("tennis shoe", false, false, false),
-        ("tabletennis shoes", false, false, false),
-        ("", false, false, false),
-    ] {
+    for (query, exact, phrase, broad) in MEETINGS {
         assert_eq!(rt;
             meets(rt.alloc(), "[tennis shoes]", query)?,
             exact,
@@ -46,39 +50,88 @@ fn queries_meet_patterns_by_their_kind(rt: HostRuntime) -> Result<(), Fail> {
     Ok(())
 }
 
+/// Checks how a text is read as a pattern, and that what is kept of it is read so again.
+fn check_read(
+    rt: &(impl Abort + AllocGlobal),
+    read: &str,
+    kept: &str,
+    kind: MatchType,
+    count: usize,
+) -> Result<(), Fail> {
+    let pattern = Pattern::read(rt.alloc(), read)?;
+    assert_eq!(rt; pattern.text(), kept, "{read}");
+    assert_eq!(rt; pattern.kind(), kind, "{read}");
+    assert_eq!(rt; pattern.words().as_slice().len(), count, "{read}");
+    let again = Pattern::read(rt.alloc(), pattern.text())?;
+    assert!(rt; again.is_same(&pattern), "{read}");
+    assert_eq!(rt; again.twin()?.text(), kept, "{read}");
+    Ok(())
+}
+
+/// A text, what is kept of it, the kind of the pattern, and the number of its words.
+const READ: [(&str, &str, MatchType, usize); 14] = [
+    ("tennis shoes", "tennis shoes", MatchType::Broad, 2),
+    ("  [a b]  ", "[a b]", MatchType::Exact, 2),
+    ("[ a b ]", "[ a b ]", MatchType::Exact, 2),
+    ("\"a\"", "\"a\"", MatchType::Phrase, 1),
+    ("\" a-b \"", "\" a-b \"", MatchType::Phrase, 2),
+    ("a]", "a]", MatchType::Broad, 1),
+    ("a\"", "a\"", MatchType::Broad, 1),
+    ("[[a]]", "[[a]]", MatchType::Exact, 1),
+    ("[\"a\"]", "[\"a\"]", MatchType::Exact, 1),
+    ("\"[a]\"", "\"[a]\"", MatchType::Phrase, 1),
+    ("[a] [b]", "[a] [b]", MatchType::Exact, 2),
+    ("a - b", "a - b", MatchType::Broad, 2),
+    ("\ta\t", "\ta\t", MatchType::Broad, 1),
+    (
+        "a b c d e f g h i j",
+        "a b c d e f g h i j",
+        MatchType::Broad,
+        10,
+    ),
+];
+
 #[test]
 fn texts_are_read_as_patterns(rt: HostRuntime) -> Result<(), Fail> {
-    for (read, kept, kind, count) in [
-        ("tennis shoes", "tennis shoes", MatchType::Broad, 2),
-        ("  [a b]  ", "[a b]", MatchType::Exact, 2),
-        ("[ a b ]", "[ a b ]", MatchType::Exact, 2),
-        ("\"a\"", "\"a\"", MatchType::Phrase, 1),
-        ("\" a-b \"", "\" a-b \"", MatchType::Phrase, 2),
-        ("a]", "a]", MatchType::Broad, 1),
-        ("a\"", "a\"", MatchType::Broad, 1),
-        ("[[a]]", "[[a]]", MatchType::Exact, 1),
-        ("[\"a\"]", "[\"a\"]", MatchType::Exact, 1),
-        ("\"[a]\"", "\"[a]\"", MatchType::Phrase, 1),
-        ("[a] [b]", "[a] [b]", MatchType::Exact, 2),
-        ("a - b", "a - b", MatchType::Broad, 2),
-        ("\ta\t", "\ta\t", MatchType::Broad, 1),
-        (
-            "a b c d e f g h i j",
-            "a b c d e f g h i j",
-            MatchType::Broad,
-            10,
-        ),
-    ] {
-        let pattern = Pattern::read(rt.alloc(), read)?;
-        assert_eq!(rt; pattern.text(), kept, "{read}");
-        assert_eq!(rt; pattern.kind(), kind, "{read}");
-        assert_eq!(rt; pattern.words().as_slice().len(), count, "{read}");
-        let again = Pattern::read(rt.alloc(), pattern.text())?;
-        assert!(rt; again.is_same(&pattern), "{read}");
-        assert_eq!(rt; again.twin()?.text(), kept, "{read}");
+    for (read, kept, kind, count) in READ {
+        check_read(&rt, read, kept, kind, count)?;
     }
     Ok(())
 }
+
+/// A text, and why it is no pattern.
+const REFUSED: [(&str, PatternError); 21] = [
+    (
+        "abcdefghijklmnopqrstuvwxyzabcdefghijklmnopqrstuvwxyzabcdefghijklmnopqrstuvwxyzabc",
+        PatternError::TooLong,
+    ),
+    (
+        "-                                                                                ",
+        PatternError::TooLong,
+    ),
+    ("-", PatternError::Minus),
+    ("-a", PatternError::Minus),
+    ("  --a", PatternError::Minus),
+    ("-[a", PatternError::Minus),
+    ("[", PatternError::Unclosed),
+    ("[a", PatternError::Unclosed),
+    ("[a]b", PatternError::Unclosed),
+    ("[a\"", PatternError::Unclosed),
+    ("\"", PatternError::Unclosed),
+    ("\"a", PatternError::Unclosed),
+    ("\"a]", PatternError::Unclosed),
+    ("[]", PatternError::NoWords),
+    ("\"\"", PatternError::NoWords),
+    ("", PatternError::NoWords),
+    ("   ", PatternError::NoWords),
+    ("[ - ]", PatternError::NoWords),
+    ("\"-,.\"", PatternError::NoWords),
+    ("a b c d e f g h i j k", PatternError::TooMany),
+    (
+        "[a,b,c,d,e,f,g,h,i,j,k,l,m,n,o,p,q,r,s,t,u,v,w,x,y,z,a,b,c,d,e,f,g,h,i,j,k]",
+        PatternError::TooMany,
+    ),
+];
 
 #[test]
 fn texts_are_refused_by_their_first_cause(rt: HostRuntime) -> Result<(), Fail> {
@@ -86,38 +139,7 @@ fn texts_are_refused_by_their_first_cause(rt: HostRuntime) -> Result<(), Fail> {
         "abcdefghijklmnopqrstuvwxyzabcdefghijklmnopqrstuvwxyzabcdefghijklmnopqrstuvwxyzab";
     assert_eq!(rt; letters.len(), 80);
     assert_eq!(rt; Pattern::read(rt.alloc(), letters)?.text(), letters);
-    for (text, cause) in [
-        (
-            "abcdefghijklmnopqrstuvwxyzabcdefghijklmnopqrstuvwxyzabcdefghijklmnopqrstuvwxyzabc",
-            PatternError::TooLong,
-        ),
-        (
-            "-                                                                                ",
-            PatternError::TooLong,
-        ),
-        ("-", PatternError::Minus),
-        ("-a", PatternError::Minus),
-        ("  --a", PatternError::Minus),
-        ("-[a", PatternError::Minus),
-        ("[", PatternError::Unclosed),
-        ("[a", PatternError::Unclosed),
-        ("[a]b", PatternError::Unclosed),
-        ("[a\"", PatternError::Unclosed),
-        ("\"", PatternError::Unclosed),
-        ("\"a", PatternError::Unclosed),
-        ("\"a]", PatternError::Unclosed),
-        ("[]", PatternError::NoWords),
-        ("\"\"", PatternError::NoWords),
-        ("", PatternError::NoWords),
-        ("   ", PatternError::NoWords),
-        ("[ - ]", PatternError::NoWords),
-        ("\"-,.\"", PatternError::NoWords),
-        ("a b c d e f g h i j k", PatternError::TooMany),
-        (
-            "[a,b,c,d,e,f,g,h,i,j,k,l,m,n,o,p,q,r,s,t,u,v,w,x,y,z,a,b,c,d,e,f,g,h,i,j,k]",
-            PatternError::TooMany,
-        ),
-    ] {
+    for (text, cause) in REFUSED {
         assert_eq!(rt;
             Pattern::read(rt.alloc(), text).err(),
             Some(cause),
@@ -127,30 +149,41 @@ fn texts_are_refused_by_their_first_cause(rt: HostRuntime) -> Result<(), Fail> {
     Ok(())
 }
 
+/// A text, what is kept of it as a negative, and its kind.
+const NEGATIVES: [(&str, &str, MatchType); 4] = [
+    ("-\"running shoes\"", "\"running shoes\"", MatchType::Phrase),
+    ("running", "running", MatchType::Broad),
+    ("  - [a]  ", "[a]", MatchType::Exact),
+    ("-[a]", "[a]", MatchType::Exact),
+];
+
 #[test]
 fn negatives_lose_one_minus(rt: HostRuntime) -> Result<(), Fail> {
-    for (read, kept, kind) in [
-        ("-\"running shoes\"", "\"running shoes\"", MatchType::Phrase),
-        ("running", "running", MatchType::Broad),
-        ("  - [a]  ", "[a]", MatchType::Exact),
-        ("-[a]", "[a]", MatchType::Exact),
-    ] {
+    for (read, kept, kind) in NEGATIVES {
         let negative = Pattern::read_negative(rt.alloc(), read)?;
         assert_eq!(rt; negative.text(), kept, "{read}");
         assert_eq!(rt; negative.kind(), kind, "{read}");
         let again = Pattern::read_negative(rt.alloc(), negative.text())?;
         assert!(rt; again.is_same(&negative), "{read}");
     }
-    for (text, cause) in [
-        ("-", PatternError::NoWords),
-        ("--a", PatternError::Minus),
-        ("-[a", PatternError::Unclosed),
-        (
-            "-abcdefghijklmnopqrstuvwxyzabcdefghijklmnopqrstuvwxyzabcdefghijklmnopqrstuvwxyzab",
-            PatternError::TooLong,
-        ),
-        ("-a b c d e f g h i j k", PatternError::TooMany),
-    ] {
+    Ok(())
+}
+
+/// A text, and why it is no negative.
+const REFUSED_NEGATIVES: [(&str, PatternError); 5] = [
+    ("-", PatternError::NoWords),
+    ("--a", PatternError::Minus),
+    ("-[a", PatternError::Unclosed),
+    (
+        "-abcdefghijklmnopqrstuvwxyzabcdefghijklmnopqrstuvwxyzabcdefghijklmnopqrstuvwxyzab",
+        PatternError::TooLong,
+    ),
+    ("-a b c d e f g h i j k", PatternError::TooMany),
+];
+
+#[test]
+fn negatives_are_refused_by_their_first_cause(rt: HostRuntime) -> Result<(), Fail> {
+    for (text, cause) in REFUSED_NEGATIVES {
         assert_eq!(rt;
             Pattern::read_negative(rt.alloc(), text).err(),
             Some(cause),

@@ -1,5 +1,5 @@
 use Rattle.std.proofs.Common.{refl}
-use Rattle.desk_cli.specs.declared.fault.AuctionFault.TheVariants.{BadLine, LongLine, TooManyLines}
+use Rattle.desk_cli.specs.declared.fault.LineFault.TheVariants.{BadLine, LongLine, TooManyLines}
 use Rattle.desk_cli.specs.Ending.{read_fault_outcome}
 use Rattle.desk_cli.specs.Outcome.{fault_outcome}
 use Rattle.desk_cli.specs.ScriptCall.{not_built_outcome}

@@ -1,14 +1,14 @@
-//! The forms of keys and headlines.
+//! The forms of keys, headlines and links.
 
-ghost use Rattle.std.specs.Prelude.{◌≡◌, ◌==◌, ◌&&◌, not, nat_le};
+ghost use Rattle.std.specs.Prelude.{◌≡◌, ◌==◌, ◌&&◌, ◌≤◌, not, nat_le, length, IsTrue};
 ghost use Rattle.std.specs.List.{list_all};
-ghost use Rattle.desk_types.specs.Fields.{is_headline, is_key, is_visible};
+ghost use Rattle.desk_types.specs.Fields.{has_scheme, is_headline, is_key, is_link, is_visible};
 
-use desk_types::limits::{HEADLINE_BYTES_MAX, KEY_BYTES_MAX, KEY_BYTES_MIN};
+use crate::limits::{HEADLINE_BYTES_MAX, KEY_BYTES_MAX, KEY_BYTES_MIN, LINK_BYTES_MAX};
 
 /// Whether a text is a key: 8 to 64 visible ASCII bytes.
-#[tactic(auto, unfolding(desk_types::specs::Fields::is_key))]
-pub(crate) fn is_key(text: &str) -> bool
+#[tactic(auto, unfolding(crate::specs::Fields::is_key))]
+pub fn is_key(text: &str) -> bool
     ensures { result ≡ is_key text.now }
 {
     let bytes = text.as_bytes();
@@ -20,8 +20,8 @@ pub(crate) fn is_key(text: &str) -> bool
 }
 
 /// Whether a text is a headline: 1 to 90 bytes, none of them a control character of ASCII.
-#[tactic(auto, unfolding(desk_types::specs::Fields::is_headline))]
-pub(crate) fn is_headline(text: &str) -> bool
+#[tactic(auto, unfolding(crate::specs::Fields::is_headline))]
+pub fn is_headline(text: &str) -> bool
     ensures { result ≡ is_headline text.now }
 {
     let bytes = text.as_bytes();
@@ -30,6 +30,29 @@ pub(crate) fn is_headline(text: &str) -> bool
         return false;
     }
     are_shown(bytes)
+}
+
+/// Whether a text is a link: at most 512 visible ASCII bytes that begin with a scheme of the web.
+#[tactic(auto, unfolding(crate::specs::Fields::is_link))]
+pub(crate) fn is_link(text: &str) -> bool
+    ensures test { result ≡ is_link text.now }
+    ensures fits { IsTrue result → length text.now ≤ LINK_BYTES_MAX }
+{
+    let bytes = text.as_bytes();
+    if bytes.len() > LINK_BYTES_MAX {
+        return false;
+    }
+    if !has_scheme(bytes) {
+        return false;
+    }
+    are_visible(bytes)
+}
+
+/// Whether the bytes begin with a scheme of the web.
+fn has_scheme(text: &[u8]) -> bool
+    ensures { result ≡ has_scheme text.now }
+{
+    text.starts_with(b"http://") || text.starts_with(b"https://")
 }
 
 /// Whether each of the bytes is a visible ASCII character.

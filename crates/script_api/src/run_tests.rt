@@ -6,6 +6,7 @@ use crate::{ScriptEnd, script};
 use desk_io::{MemSink, MemSource};
 use desk_types::{Call, Fault, Reply, Service};
 use std::alloc::{AllocError, Global};
+use std::process::Abort;
 use std::test::Fail;
 
 /// A service whose journal has room for no entry. It says so of a call at an even moment, and has no
@@ -60,63 +61,76 @@ fn ran(
     Ok((end, output.bytes().to_vec(alloc)?))
 }
 
-#[test]
-fn a_script_ends_by_its_lines_in_any_pieces(rt: HostRuntime) -> Result<(), Fail> {
+/// What is shown, a script, how it ends, and the lines of its answers.
+const SCRIPTS: [(&str, &[u8], ScriptEnd, &[u8]); 9] = [
+    ("nothing", b"", ScriptEnd::Ended, b""),
+    (
+        "two calls",
+        b"1 click 1\n2 click 1\n",
+        ScriptEnd::Ended,
+        b"fault memory\nfault journal\n",
+    ),
+    (
+        "a last line without a line feed",
+        b"1 click 1\n2 click 1",
+        ScriptEnd::Ended,
+        b"fault memory\nfault journal\n",
+    ),
+    (
+        "carriage returns",
+        b"1 click 1\r\n2 click 1\r\n",
+        ScriptEnd::Ended,
+        b"fault memory\nfault journal\n",
+    ),
+    (
+        "lines that are passed over",
+        b"#\n\n1 click 1\n# a\n",
+        ScriptEnd::Ended,
+        b"fault memory\n",
+    ),
+    (
+        "they are counted",
+        b"# a\n\n1 click 1\nclick 1\n2 click 1\n",
+        ScriptEnd::BadLine(4),
+        b"fault memory\n",
+    ),
+    (
+        "a carriage return without a line feed",
+        b"1 click 1\r",
+        ScriptEnd::BadLine(1),
+        b"",
+    ),
+    ("no UTF-8", b"\xFF\n", ScriptEnd::BadLine(1), b""),
+    (
+        "a command without a call yet",
+        b"1 click 1\n1 credit 1\n",
+        ScriptEnd::NotBuilt(2),
+        b"fault memory\n",
+    ),
+];
+
+/// Checks how scripts end and what is written, where they come in pieces of at most `cut` bytes.
+fn check_scripts(
+    rt: &(impl Abort + AllocGlobal),
+    cut: u64,
+    rows: &[(&str, &[u8], ScriptEnd, &[u8])],
+) -> Result<(), Fail>
+    requires { 1 ≤ cut }
+{
     let alloc = rt.alloc();
-    let cases: [(&str, &[u8], ScriptEnd, &[u8]); 9] = [
-        ("nothing", b"", ScriptEnd::Ended, b""),
-        (
-            "two calls",
-            b"1 click 1\n2 click 1\n",
-            ScriptEnd::Ended,
-            b"fault memory\nfault journal\n",
-        ),
-        (
-            "a last line without a line feed",
-            b"1 click 1\n2 click 1",
-            ScriptEnd::Ended,
-            b"fault memory\nfault journal\n",
-        ),
-        (
-            "carriage returns",
-            b"1 click 1\r\n2 click 1\r\n",
-            ScriptEnd::Ended,
-            b"fault memory\nfault journal\n",
-        ),
-        (
-            "lines that are passed over",
-            b"#\n\n1 click 1\n# a\n",
-            ScriptEnd::Ended,
-            b"fault memory\n",
-        ),
-        (
-            "they are counted",
-            b"# a\n\n1 click 1\nclick 1\n2 click 1\n",
-            ScriptEnd::BadLine(4),
-            b"fault memory\n",
-        ),
-        (
-            "a carriage return without a line feed",
-            b"1 click 1\r",
-            ScriptEnd::BadLine(1),
-            b"",
-        ),
-        ("no UTF-8", b"\xFF\n", ScriptEnd::BadLine(1), b""),
-        (
-            "a command without a call yet",
-            b"1 click 1\n1 credit 1\n",
-            ScriptEnd::NotBuilt(2),
-            b"fault memory\n",
-        ),
-    ];
-    for (case, bytes, end, lines) in cases {
-        for cut in [1, 7, 4_096] {
-            let (found, written) = ran(alloc, bytes, cut, Vec::new(alloc), Vec::new(alloc))?;
-            assert!(rt; found == end, "{case}, in pieces of {cut}");
-            assert_eq!(rt; written.as_slice(), lines, "{case}, in pieces of {cut}");
-        }
+    for (case, bytes, end, lines) in rows {
+        let (found, written) = ran(alloc, bytes, cut, Vec::new(alloc), Vec::new(alloc))?;
+        assert!(rt; found == *end, "{case}, in pieces of {cut}");
+        assert_eq!(rt; written.as_slice(), *lines, "{case}, in pieces of {cut}");
     }
     Ok(())
+}
+
+#[test]
+fn a_script_ends_by_its_lines_in_any_pieces(rt: HostRuntime) -> Result<(), Fail> {
+    check_scripts(&rt, 1, &SCRIPTS)?;
+    check_scripts(&rt, 7, &SCRIPTS)?;
+    check_scripts(&rt, 4_096, &SCRIPTS)
 }
 
 /// A call, so many bytes of one value, and another call.
@@ -127,40 +141,43 @@ fn around(alloc: Global, byte: u8, count: usize) -> Result<Vec<u8>, AllocError> 
     Ok(bytes)
 }
 
+/// What is shown, how many bytes of which value stand between two calls, how the script ends, and the
+/// lines of its answers.
+const AROUND: [(&str, u8, usize, ScriptEnd, &[u8]); 4] = [
+    (
+        "4,096 bytes",
+        b'#',
+        4_096,
+        ScriptEnd::Ended,
+        b"fault memory\nfault journal\n",
+    ),
+    (
+        "4,097 bytes",
+        b'#',
+        4_097,
+        ScriptEnd::LongLine(2),
+        b"fault memory\n",
+    ),
+    (
+        "1,000,000 lines",
+        b'\n',
+        999_997,
+        ScriptEnd::Ended,
+        b"fault memory\nfault journal\n",
+    ),
+    (
+        "1,000,001 lines",
+        b'\n',
+        999_998,
+        ScriptEnd::TooManyLines,
+        b"fault memory\n",
+    ),
+];
+
 #[test]
 fn a_script_ends_at_a_limit(rt: HostRuntime) -> Result<(), Fail> {
     let alloc = rt.alloc();
-    let cases: [(&str, u8, usize, ScriptEnd, &[u8]); 4] = [
-        (
-            "4,096 bytes",
-            b'#',
-            4_096,
-            ScriptEnd::Ended,
-            b"fault memory\nfault journal\n",
-        ),
-        (
-            "4,097 bytes",
-            b'#',
-            4_097,
-            ScriptEnd::LongLine(2),
-            b"fault memory\n",
-        ),
-        (
-            "1,000,000 lines",
-            b'\n',
-            999_997,
-            ScriptEnd::Ended,
-            b"fault memory\nfault journal\n",
-        ),
-        (
-            "1,000,001 lines",
-            b'\n',
-            999_998,
-            ScriptEnd::TooManyLines,
-            b"fault memory\n",
-        ),
-    ];
-    for (case, byte, count, end, lines) in cases {
+    for (case, byte, count, end, lines) in AROUND {
         let bytes = around(alloc, byte, count)?;
         let (found, written) = ran(alloc, &bytes, 4_096, Vec::new(alloc), Vec::new(alloc))?;
         assert!(rt; found == end, "{case}");

@@ -68,6 +68,24 @@ fn write_call(out: &mut String, call: &Call) -> Result<(), AllocError> {
     }
 }
 
+/// Checks what lines tell: each row has what it shows, a line, and what that tells.
+fn check_told(rt: &(impl Abort + AllocGlobal), rows: &[(&str, &str, &str)]) -> Result<(), Fail> {
+    for (case, line, wanted) in rows {
+        let found = told(rt.alloc(), line.as_bytes())?;
+        assert_eq!(rt; found.as_str(), *wanted, "{case}");
+    }
+    Ok(())
+}
+
+/// Checks that each of these lines is in no form; a row has what it shows and a line.
+fn check_bad(rt: &(impl Abort + AllocGlobal), rows: &[(&str, &str)]) -> Result<(), Fail> {
+    for (case, line) in rows {
+        let found = told(rt.alloc(), line.as_bytes())?;
+        assert_eq!(rt; found.as_str(), "bad", "{case}");
+    }
+    Ok(())
+}
+
 /// What is shown, a line, and the call that it tells.
 const CALLS: [(&str, &str, &str); 25] = [
     ("an account", "1 account secret01", "1: account <secret01>"),
@@ -167,10 +185,7 @@ const CALLS: [(&str, &str, &str); 25] = [
 
 #[test]
 fn a_line_in_its_form_tells_its_call(rt: HostRuntime) -> Result<(), Fail> {
-    for (case, line, call) in CALLS {
-        assert_eq!(rt; told(rt.alloc(), line.as_bytes())?.as_str(), call, "{case}");
-    }
-    Ok(())
+    check_told(&rt, &CALLS)
 }
 
 /// What is shown, and a line in no form.
@@ -230,13 +245,7 @@ const BAD_LINES: [(&str, &str); 51] = [
 
 #[test]
 fn a_line_in_no_form_is_bad(rt: HostRuntime) -> Result<(), Fail> {
-    for (case, line) in BAD_LINES {
-        assert_eq!(rt;
-            told(rt.alloc(), line.as_bytes())?.as_str(),
-            "bad",
-            "{case}"
-        );
-    }
+    check_bad(&rt, &BAD_LINES)?;
     assert_eq!(rt;
         told(rt.alloc(), b"6 search - \xFF")?.as_str(),
         "bad",
@@ -269,13 +278,7 @@ const OTHER_LINES: [(&str, &str, &str); 14] = [
 
 #[test]
 fn other_lines_are_skipped_or_not_built(rt: HostRuntime) -> Result<(), Fail> {
-    for (case, line, told_as) in OTHER_LINES {
-        assert_eq!(rt;
-            told(rt.alloc(), line.as_bytes())?.as_str(),
-            told_as,
-            "{case}"
-        );
-    }
+    check_told(&rt, &OTHER_LINES)?;
     assert_eq!(rt;
         told(rt.alloc(), b"#\xFF")?.as_str(),
         "skipped",

@@ -111,18 +111,22 @@ fn placements_end_at_their_limit(rt: HostRuntime) -> Result<(), Fail> {
 }
 
 #[test]
-fn the_journal_is_judged_first(rt: HostRuntime) -> Result<(), Fail> {
-    let mut by_entries = Desk::new(rt.alloc(), limited(&rt, 3, 10_000, 100));
-    check(&rt, &mut by_entries, OPENED)?;
+fn the_entries_of_the_journal_are_judged_first(rt: HostRuntime) -> Result<(), Fail> {
+    let mut desk = Desk::new(rt.alloc(), limited(&rt, 3, 10_000, 100));
+    check(&rt, &mut desk, OPENED)?;
     check(
         &rt,
-        &mut by_entries,
+        &mut desk,
         "1;account;short -> full 3 51\n1;click;9 -> full 3 51",
-    )?;
-    let mut by_bytes = Desk::new(rt.alloc(), limited(&rt, 100, 20, 100));
+    )
+}
+
+#[test]
+fn the_bytes_of_the_journal_are_judged_first(rt: HostRuntime) -> Result<(), Fail> {
+    let mut desk = Desk::new(rt.alloc(), limited(&rt, 100, 20, 100));
     check(
         &rt,
-        &mut by_bytes,
+        &mut desk,
         "1;account;secret01 -> made 1\n\
          1;account;secret0123456 -> full 1 8\n\
          1;account;secret012345 -> made 2\n\
@@ -130,8 +134,8 @@ fn the_journal_is_judged_first(rt: HostRuntime) -> Result<(), Fail> {
          1;search; -> page 0\n\
          1;click;9 -> NoPlacement",
     )?;
-    by_bytes.reserve(7)?;
-    assert_eq!(rt; by_bytes.log().len(), 4);
+    desk.reserve(7)?;
+    assert_eq!(rt; desk.log().len(), 4);
     Ok(())
 }
 

@@ -4,6 +4,8 @@ use Rattle.std.specs.Prelude.{◌≢◌, Option, Some, None, IfSome, IfOk, Resul
 use Rattle.std.proofs.lemmas.Slice.Eq.{bytes_eq-Decides}
 use Rattle.desk_io.specs.Faults.{Rose}
 use Rattle.desk_io.specs.Lines.{lines}
+use Rattle.desk_io.specs.SinkView.{SinkView}
+use Rattle.desk_io.specs.SourceView.{SourceView}
 use Rattle.desk_io.specs.Writing.{Appends, IsProperPrefix}
 use Rattle.desk_io.proofs.Appending.{Appends_more}
 use Rattle.desk_cli.specs.declared.answer.Answer.{Answer}
@@ -26,23 +28,23 @@ same_outcome : (answer : Answer) (output : List ℕ) (status : ℕ) → string_b
 same_outcome answer output status text is = cc
 
 -- the answer is that of what the bytes tell
-pub judged-answer : {E : Type 0} (left : Option (List ℕ)) (faults faults_now : ℕ) (told : Result AuctionValue LineFault) (result : Result Answer E) →
-    IfSome left (λ bytes. told_by (lines bytes) ≡ told) →
+pub judged-answer : {E : Type 0} (source source_now : SourceView) (told : Result AuctionValue LineFault) (result : Result Answer E) →
+    IfSome source.left (λ bytes. told_by (lines bytes) ≡ told) →
     IfOk result (λ answer. string_bytes answer.text ≡ (outcome_of told).output) → IfOk result (λ answer. answer.status ≡ (outcome_of told).status) →
-    IfOk result (λ answer. IsAuctionOutcome left faults faults_now (answered answer))
-judged-answer left faults faults_now told (Ok answer) tells text status =
+    IfOk result (λ answer. IsAuctionOutcome source source_now (answered answer))
+judged-answer source source_now told (Ok answer) tells text status =
     inr (record { told = told; is = same_outcome answer (outcome_of told).output (outcome_of told).status text status; bytes_tell = tells })
-judged-answer left faults faults_now told (Err e) tells text status = tt
+judged-answer source source_now told (Err e) tells text status = tt
 
 pub fault-tells : (left : Option (List ℕ)) (end : ReadEnd) (fault : LineFault) → end ≡ Fault fault →
     IfSome left (λ bytes. ReadsAs (told_by (lines bytes)) (Err end)) → IfSome left (λ bytes. told_by (lines bytes) ≡ Err fault)
 fault-tells left end fault is reads = subst (λ e. IfSome left (λ bytes. ReadsAs (told_by (lines bytes)) (Err e))) is reads
 
-pub read_fault-answer : {E : Type 0} (left : Option (List ℕ)) (faults faults_now : ℕ) (result : Result Answer E) → Rose faults faults_now →
+pub read_fault-answer : {E : Type 0} (source source_now : SourceView) (result : Result Answer E) → Rose source.faults source_now.faults →
     IfOk result (λ answer. string_bytes answer.text ≡ codes "read fault\n") → IfOk result (λ answer. answer.status ≡ 3) →
-    IfOk result (λ answer. IsAuctionOutcome left faults faults_now (answered answer))
-read_fault-answer left faults faults_now (Ok answer) rose text status = inl (record { rose = rose; is = same_outcome answer (codes "read fault\n") 3 text status })
-read_fault-answer left faults faults_now (Err e) rose text status = tt
+    IfOk result (λ answer. IsAuctionOutcome source source_now (answered answer))
+read_fault-answer source source_now (Ok answer) rose text status = inl (record { rose = rose; is = same_outcome answer (codes "read fault\n") 3 text status })
+read_fault-answer source source_now (Err e) rose text status = tt
 
 -- a status that is not 0 says nothing of what is left
 pub other-status : {E : Type 0} (P : Type 0) (status : ℕ) (result : Result Answer E) → status ≢ 0 → IfOk result (λ answer. answer.status ≡ status) →
@@ -61,27 +63,30 @@ all_read P (Ok answer) p = λ zero. p
 all_read P (Err e) p = tt
 
 -- some outcome is that of what the bytes tell
-pub some_judged : (left : Option (List ℕ)) → (outcome : Outcome) × IsJudged left outcome
-some_judged None = (outcome_of (Err TooManyLines), record { told = Err TooManyLines; is = refl; bytes_tell = tt })
-some_judged (Some bytes) = (outcome_of (told_by (lines bytes)), record { told = told_by (lines bytes); is = refl; bytes_tell = refl })
+pub some_judged : (source : SourceView) → (outcome : Outcome) × IsJudged source outcome
+some_judged source = let told = some_told source.left in (outcome_of told.0, record { told = told.0; is = refl; bytes_tell = told.1 })
+  where
+    some_told : (left : Option (List ℕ)) → (told : Result AuctionValue LineFault) × IfSome left (λ bytes. told_by (lines bytes) ≡ told)
+    some_told None = (Err TooManyLines, tt)
+    some_told (Some bytes) = (told_by (lines bytes), refl)
 
 proper-behind : (sent part waiting text : List ℕ) → sent ++ waiting ≡ text → IsProperPrefix part waiting → IsProperPrefix (sent ++ part) text
 proper-behind sent part waiting text whole prefix =
     (prefix.0, sym whole ∙ ap (λ rest. sent ++ rest) prefix.1 ∙ sym (append_assoc sent part prefix.0), prefix.2)
 
 -- what waited is said behind what was sent
-pub said-behind : (w v u : Option (List ℕ)) (t s r : Option ℕ) (before faults faults_now : ℕ) (text waiting sent : List ℕ) (status result : ℕ) →
-    before ≤ faults → Appends w v t s sent → sent ++ waiting ≡ text → IsSaid v u s r faults faults_now waiting status result →
-    IsWritten w u t r before faults_now (record { output = text; status = status }) result
-said-behind w v u t s r before faults faults_now text waiting sent status result rises first whole (inl said) =
-    inl (inl (record { answered = said.answered; appended = subst (Appends w u t r) whole (Appends_more w v u t s r sent waiting first said.appended) }))
-said-behind w v u t s r before faults faults_now text waiting sent status result rises first whole (inr said) =
+pub said-behind : (o p q : SinkView) (text waiting sent : List ℕ) (status result : ℕ) →
+    o.faults ≤ p.faults → Appends o p sent → sent ++ waiting ≡ text → IsSaid p q waiting status result →
+    IsWritten o q (record { output = text; status = status }) result
+said-behind o p q text waiting sent status result rises first whole (inl said) =
+    inl (inl (record { answered = said.answered; appended = subst (Appends o q) whole (Appends_more o p q sent waiting first said.appended) }))
+said-behind o p q text waiting sent status result rises first whole (inr said) =
     inl (inr (record {
       answered = said.answered;
-      rose = Rose-before before faults faults_now rises said.rose;
+      rose = Rose-before o.faults p.faults q.faults rises said.rose;
       sent = sent ++ said.sent;
       beginning = proper-behind sent said.sent waiting text whole said.beginning;
-      appended = Appends_more w v u t s r sent said.sent first said.appended;
+      appended = Appends_more o p q sent said.sent first said.appended;
     }))
 
 -- a list of one word, tested
@@ -98,10 +103,10 @@ one-word (w ∷ []) shown word bytes text r one is same tested = rw (ap shown (s
 one-word (w ∷ v ∷ more) shown word bytes text r one is same tested = absurd (omega arith)
 
 -- a call that says an outcome with a status other than 0 answers another status too
-pub written-not_0 : (w u : Option (List ℕ)) (t r : Option ℕ) (faults faults_now : ℕ) (outcome : Outcome) (status : ℕ) → outcome.status ≢ 0 → IsWritten w u t r faults faults_now outcome status → status ≢ 0
-written-not_0 w u t r faults faults_now outcome status other (inl (inl all)) = λ zero. other (sym all.answered ∙ zero)
-written-not_0 w u t r faults faults_now outcome status other (inl (inr cut)) = λ zero. omega (arith, cut.answered, zero)
-written-not_0 w u t r faults faults_now outcome status other (inr none) = λ zero. omega (arith, none.answered, zero)
+pub written-not_0 : (o q : SinkView) (outcome : Outcome) (status : ℕ) → outcome.status ≢ 0 → IsWritten o q outcome status → status ≢ 0
+written-not_0 o q outcome status other (inl (inl all)) = λ zero. other (sym all.answered ∙ zero)
+written-not_0 o q outcome status other (inl (inr cut)) = λ zero. omega (arith, cut.answered, zero)
+written-not_0 o q outcome status other (inr none) = λ zero. omega (arith, none.answered, zero)
 
 -- the text and the status of an answer that is known
 pub answer-is : {E : Type 0} (result : Result Answer E) (outcome : Outcome) → IfOk result (λ answer. string_bytes answer.text ≡ outcome.output) → IfOk result (λ answer. answer.status ≡ outcome.status)

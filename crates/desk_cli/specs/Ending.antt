@@ -1,8 +1,10 @@
 -- How a call of the program ends.
-use Rattle.std.specs.Prelude.{◌≡◌, ℕ, ◌⊎◌, List, [], ◌∷◌, codes, Option, IfSome, Result, Ok, Err}
+use Rattle.std.specs.Prelude.{◌≡◌, ℕ, ◌⊎◌, List, [], ◌∷◌, codes, IfSome, Result, Ok, Err}
 use Rattle.desk_io.specs.Faults.{Rose}
 use Rattle.desk_io.specs.Lines.{lines}
-use Rattle.desk_io.specs.Writing.{Appends, IsProperPrefix}
+use Rattle.desk_io.specs.SinkView.{SinkView}
+use Rattle.desk_io.specs.SourceView.{SourceView}
+use Rattle.desk_io.specs.Writing.{Appends, AppendsNothing, IsProperPrefix}
 use Rattle.desk_cli.specs.declared.fault.LineFault.{LineFault}
 use Rattle.desk_cli.specs.declared.fault.ReadEnd.{ReadEnd}
 use Rattle.desk_cli.specs.declared.fault.ReadEnd.TheVariants.{Fault, ReadFault, NoMemory}
@@ -37,48 +39,47 @@ abbrev pub read_fault_outcome : Outcome
 read_fault_outcome = record { output = codes "read fault\n"; status = 3 }
 
 -- a read failed
-pub record IsReadFault (faults faults_now : ℕ) (outcome : Outcome) : Type 0 where
-  pub rose : Rose faults faults_now
+pub record IsReadFault (source source_now : SourceView) (outcome : Outcome) : Type 0 where
+  pub rose : Rose source.faults source_now.faults
   pub is : outcome ≡ read_fault_outcome
 
 -- the outcome is that of what the input's bytes tell, where the input tells them
-pub record IsJudged (left : Option (List ℕ)) (outcome : Outcome) : Type 0 where
+pub record IsJudged (source : SourceView) (outcome : Outcome) : Type 0 where
   pub told : Result AuctionValue LineFault
   pub is : outcome ≡ outcome_of told
-  pub bytes_tell : IfSome left (λ bytes. told_by (lines bytes) ≡ told)
+  pub bytes_tell : IfSome source.left (λ bytes. told_by (lines bytes) ≡ told)
 
 -- the outcome of an auction, by its input
-abbrev pub IsAuctionOutcome : Option (List ℕ) → ℕ → ℕ → Outcome → Type 0
-IsAuctionOutcome left faults faults_now outcome = IsReadFault faults faults_now outcome ⊎ IsJudged left outcome
+abbrev pub IsAuctionOutcome : SourceView → SourceView → Outcome → Type 0
+IsAuctionOutcome source source_now outcome = IsReadFault source source_now outcome ⊎ IsJudged source outcome
 
 -- all of the outcome is written, and its status answered
-pub record IsAllWritten (written written_now : Option (List ℕ)) (taken taken_now : Option ℕ) (outcome : Outcome) (status : ℕ) : Type 0 where
+pub record IsAllWritten (sink sink_now : SinkView) (outcome : Outcome) (status : ℕ) : Type 0 where
   pub answered : status ≡ outcome.status
-  pub appended : Appends written written_now taken taken_now outcome.output
+  pub appended : Appends sink sink_now outcome.output
 
 -- a write failed: a beginning of the outcome is written, and not all of it
-pub record IsCutOff (written written_now : Option (List ℕ)) (taken taken_now : Option ℕ) (faults faults_now : ℕ) (outcome : Outcome) (status : ℕ) : Type 0 where
+pub record IsCutOff (sink sink_now : SinkView) (outcome : Outcome) (status : ℕ) : Type 0 where
   pub answered : status ≡ 4
-  pub rose : Rose faults faults_now
+  pub rose : Rose sink.faults sink_now.faults
   pub sent : List ℕ
   pub beginning : IsProperPrefix sent outcome.output
-  pub appended : Appends written written_now taken taken_now sent
+  pub appended : Appends sink sink_now sent
 
 -- memory was wanting: nothing is written
-pub record IsWanting (written written_now : Option (List ℕ)) (taken taken_now : Option ℕ) (status : ℕ) : Type 0 where
+pub record IsWanting (sink sink_now : SinkView) (status : ℕ) : Type 0 where
   pub answered : status ≡ 5
-  pub nothing_written : written_now ≡ written
-  pub nothing_taken : taken_now ≡ taken
+  pub nothing : AppendsNothing sink sink_now
 
 -- how much of an outcome is written, and the status that is answered
-abbrev pub IsWritten : Option (List ℕ) → Option (List ℕ) → Option ℕ → Option ℕ → ℕ → ℕ → Outcome → ℕ → Type 0
-IsWritten written written_now taken taken_now faults faults_now outcome status =
-    (IsAllWritten written written_now taken taken_now outcome status
-    ⊎ IsCutOff written written_now taken taken_now faults faults_now outcome status)
-    ⊎ IsWanting written written_now taken taken_now status
+abbrev pub IsWritten : SinkView → SinkView → Outcome → ℕ → Type 0
+IsWritten sink sink_now outcome status =
+    (IsAllWritten sink sink_now outcome status
+    ⊎ IsCutOff sink sink_now outcome status)
+    ⊎ IsWanting sink sink_now status
 
 -- what waited is written and the status answered; or a write failed and a beginning of it is written, and not all
-abbrev pub IsSaid : Option (List ℕ) → Option (List ℕ) → Option ℕ → Option ℕ → ℕ → ℕ → List ℕ → ℕ → ℕ → Type 0
-IsSaid written written_now taken taken_now faults faults_now waiting status result =
-    IsAllWritten written written_now taken taken_now (record { output = waiting; status = status }) result
-    ⊎ IsCutOff written written_now taken taken_now faults faults_now (record { output = waiting; status = status }) result
+abbrev pub IsSaid : SinkView → SinkView → List ℕ → ℕ → ℕ → Type 0
+IsSaid sink sink_now waiting status result =
+    IsAllWritten sink sink_now (record { output = waiting; status = status }) result
+    ⊎ IsCutOff sink sink_now (record { output = waiting; status = status }) result

@@ -1,5 +1,7 @@
 -- How a call of the program ends.
-use Rattle.std.specs.Prelude.{◌≡◌, ℕ, ◌⊎◌, List, codes, Option, None, Some}
+use Rattle.std.specs.Prelude.{◌≡◌, ℕ, ◌⊎◌, List, codes, None, Some}
+use Rattle.desk_io.specs.SinkView.{SinkView}
+use Rattle.desk_io.specs.SourceView.{SourceView}
 use Rattle.desk_types.specs.SettingsValue.{usual}
 use Rattle.desk_core.specs.DeskValue.{DeskValue}
 use Rattle.desk_core.specs.SoloValue.{AreOwn}
@@ -9,33 +11,33 @@ use Rattle.desk_cli.specs.Outcome.{Outcome}
 use Rattle.desk_cli.specs.ScriptCall.{IsFairThroughout, IsScriptServed}
 
 -- the words are none that the program takes, and it says so
-pub record IsRefused (words : List (List ℕ)) (written written_now : Option (List ℕ)) (taken taken_now : Option ℕ) (writes writes_now : ℕ) (served : Served) : Type 0 where
+pub record IsRefused (words : List (List ℕ)) (sink sink_now : SinkView) (served : Served) : Type 0 where
   pub no_auction : ¬ (AreWord (codes "auction") words)
   pub no_script : ¬ (AreWord (codes "script") words)
-  pub said : IsWritten written written_now taken taken_now writes writes_now refused_outcome served.status
+  pub said : IsWritten sink sink_now refused_outcome served.status
   pub no_desk : served.desk ≡ None
 
 -- the word is `auction`, and the outcome of the auction is written
-pub record IsAuction (words : List (List ℕ)) (left : Option (List ℕ)) (reads reads_now : ℕ) (written written_now : Option (List ℕ)) (taken taken_now : Option ℕ) (writes writes_now : ℕ) (served : Served) : Type 0 where
+pub record IsAuction (words : List (List ℕ)) (source source_now : SourceView) (sink sink_now : SinkView) (served : Served) : Type 0 where
   pub words_are : AreWord (codes "auction") words
   pub outcome : Outcome
-  pub judged : IsAuctionOutcome left reads reads_now outcome
-  pub said : IsWritten written written_now taken taken_now writes writes_now outcome served.status
+  pub judged : IsAuctionOutcome source source_now outcome
+  pub said : IsWritten sink sink_now outcome served.status
   pub no_desk : served.desk ≡ None
 
 -- the word is `script`, and the script is served by a desk with the usual settings, whose entries are all the caller's
-pub record IsScript (words : List (List ℕ)) (left left_now : Option (List ℕ)) (reads reads_now : ℕ) (written written_now : Option (List ℕ)) (taken taken_now : Option ℕ) (writes writes_now : ℕ) (served : Served) : Type 0 where
+pub record IsScript (words : List (List ℕ)) (source source_now : SourceView) (sink sink_now : SinkView) (served : Served) : Type 0 where
   pub words_are : AreWord (codes "script") words
   pub desk : DeskValue
   pub there : served.desk ≡ Some desk
   pub settings : desk.settings ≡ usual
   pub own : AreOwn 1 desk.log
-  pub run : IsScriptServed left left_now reads reads_now written written_now taken taken_now writes writes_now desk served.status
+  pub run : IsScriptServed source source_now sink sink_now desk served.status
   pub fair : IsFairThroughout desk
 
 -- how a call ends, by its words
-abbrev pub Ends : List (List ℕ) → Option (List ℕ) → Option (List ℕ) → ℕ → ℕ → Option (List ℕ) → Option (List ℕ) → Option ℕ → Option ℕ → ℕ → ℕ → Served → Type 0
-Ends words left left_now reads reads_now written written_now taken taken_now writes writes_now served =
-    (IsAuction words left reads reads_now written written_now taken taken_now writes writes_now served
-    ⊎ IsScript words left left_now reads reads_now written written_now taken taken_now writes writes_now served)
-    ⊎ IsRefused words written written_now taken taken_now writes writes_now served
+abbrev pub Ends : List (List ℕ) → SourceView → SourceView → SinkView → SinkView → Served → Type 0
+Ends words source source_now sink sink_now served =
+    (IsAuction words source source_now sink sink_now served
+    ⊎ IsScript words source source_now sink sink_now served)
+    ⊎ IsRefused words sink sink_now served

@@ -65,8 +65,8 @@ pub fn read_fault_answer(alloc: Global) -> Result<Answer, AllocError>
 
 /// Writes a text and answers the status; 4 where a write failed, and 5 for want of memory.
 pub fn say<T: Sink>(alloc: Global, output: &mut T, text: &str, status: u8) -> u8
-    ensures written { IsWritten (T.written output.old) (T.written output.new) (T.taken output.old) (T.taken output.new) (T.write_faults output.old) (T.write_faults output.new) (record { output = text.now; status = status }) result }
-    ensures faults { T.write_faults output.old ≤ T.write_faults output.new }
+    ensures written { IsWritten (T.sink output.old) (T.sink output.new) (record { output = text.now; status = status }) result }
+    ensures faults { (T.sink output.old).faults ≤ (T.sink output.new).faults }
 {
     let Ok(mut out) = OutBuf::new(alloc) else {
         return 5;
@@ -79,8 +79,8 @@ pub fn say<T: Sink>(alloc: Global, output: &mut T, text: &str, status: u8) -> u8
 
 /// Writes what waits and answers the status, or 4 where a write failed.
 fn say_rest<T: Sink>(out: &mut OutBuf, output: &mut T, status: u8) -> u8
-    ensures said { IsSaid (T.written output.old) (T.written output.new) (T.taken output.old) (T.taken output.new) (T.write_faults output.old) (T.write_faults output.new) out.old status result }
-    ensures faults { T.write_faults output.old ≤ T.write_faults output.new }
+    ensures said { IsSaid (T.sink output.old) (T.sink output.new) out.old status result }
+    ensures faults { (T.sink output.old).faults ≤ (T.sink output.new).faults }
 {
     match out.flush(output) {
         Ok(()) => status,

@@ -27,11 +27,11 @@ pub struct Auction {
 
 /// Reads an auction to the end of the input or to the first line with a fault.
 pub fn read_auction<S: Source>(alloc: Global, input: &mut S) -> Result<Auction, ReadEnd>
-    ensures told { IfSome (S.left input.old) (λ bytes. ReadsAs (told_by (lines bytes)) result) }
+    ensures told { IfSome (S.source input.old).left (λ bytes. ReadsAs (told_by (lines bytes)) result) }
     ensures meets { IfOk result (λ auction. All (Meets auction.heading) auction.ads.items) }
-    ensures all_read { OnOk result (IfSome (S.left input.new) (λ bytes. bytes ≡ [])) }
-    ensures cause { IfErr result (ReadEndCause (S.read_faults input.old) (S.read_faults input.new)) }
-    ensures faults { S.read_faults input.old ≤ S.read_faults input.new }
+    ensures all_read { OnOk result (IfSome (S.source input.new).left (λ bytes. bytes ≡ [])) }
+    ensures cause { IfErr result (ReadEndCause (S.source input.old).faults (S.source input.new).faults) }
+    ensures faults { (S.source input.old).faults ≤ (S.source input.new).faults }
 {
     let Ok(mut reader) = LineReader::new(alloc, LINE_MAX) else {
         return Err(ReadEnd::NoMemory);
@@ -50,10 +50,10 @@ fn read_lines<S: Source>(
     input: &mut S,
 ) -> Result<u64, ReadEnd>
     requires max { reader.old.max ≡ LINE_MAX }
-    ensures told { IfSome (ahead reader.old (S.left input.old)) (λ bytes. Tells (told_from reading.old 1 bytes) reading.new result) }
-    ensures all_read { OnOk result (IfSome (S.left input.new) (λ bytes. bytes ≡ [])) }
-    ensures cause { IfErr result (ReadEndCause (S.read_faults input.old) (S.read_faults input.new)) }
-    ensures faults { S.read_faults input.old ≤ S.read_faults input.new }
+    ensures told { IfSome (ahead reader.old (S.source input.old).left) (λ bytes. Tells (told_from reading.old 1 bytes) reading.new result) }
+    ensures all_read { OnOk result (IfSome (S.source input.new).left (λ bytes. bytes ≡ [])) }
+    ensures cause { IfErr result (ReadEndCause (S.source input.old).faults (S.source input.new).faults) }
+    ensures faults { (S.source input.old).faults ≤ (S.source input.new).faults }
 {
     for number in 1..LINES_MAX + 1 {
         if !take_line(reader, reading, input, number)? {
@@ -76,10 +76,10 @@ fn take_line<S: Source>(
     requires number { (1 ≤ number) × (number ≤ LINES_MAX) }
     requires max { reader.old.max ≡ LINE_MAX }
     ensures max { reader.new.max ≡ LINE_MAX }
-    ensures turned { Turned (option_map (told_from reading.old number) (ahead reader.old (S.left input.old))) (option_map (told_from reading.new (number + 1)) (ahead reader.new (S.left input.new))) (end_of reading.new.heading number reading.new.eligible) result }
-    ensures all_read { IfOk result (λ more. OnFalse more (IfSome (S.left input.new) (λ bytes. bytes ≡ []))) }
-    ensures cause { IfErr result (ReadEndCause (S.read_faults input.old) (S.read_faults input.new)) }
-    ensures faults { S.read_faults input.old ≤ S.read_faults input.new }
+    ensures turned { Turned (option_map (told_from reading.old number) (ahead reader.old (S.source input.old).left)) (option_map (told_from reading.new (number + 1)) (ahead reader.new (S.source input.new).left)) (end_of reading.new.heading number reading.new.eligible) result }
+    ensures all_read { IfOk result (λ more. OnFalse more (IfSome (S.source input.new).left (λ bytes. bytes ≡ []))) }
+    ensures cause { IfErr result (ReadEndCause (S.source input.old).faults (S.source input.new).faults) }
+    ensures faults { (S.source input.old).faults ≤ (S.source input.new).faults }
 {
     match reader.next(input) {
         LineGot::Line => match reading.take(number, reader.line()) {
@@ -95,10 +95,10 @@ fn take_line<S: Source>(
 /// Sees that the end stands behind the last line that may be.
 fn take_end<S: Source>(reader: &mut LineReader, input: &mut S) -> Result<(), ReadEnd>
     requires max { reader.old.max ≡ LINE_MAX }
-    ensures ends { EndsThere (ahead reader.old (S.left input.old)) result }
-    ensures all_read { OnOk result (IfSome (S.left input.new) (λ bytes. bytes ≡ [])) }
-    ensures cause { IfErr result (ReadEndCause (S.read_faults input.old) (S.read_faults input.new)) }
-    ensures faults { S.read_faults input.old ≤ S.read_faults input.new }
+    ensures ends { EndsThere (ahead reader.old (S.source input.old).left) result }
+    ensures all_read { OnOk result (IfSome (S.source input.new).left (λ bytes. bytes ≡ [])) }
+    ensures cause { IfErr result (ReadEndCause (S.source input.old).faults (S.source input.new).faults) }
+    ensures faults { (S.source input.old).faults ≤ (S.source input.new).faults }
 {
     match reader.next(input) {
         LineGot::End => Ok(()),

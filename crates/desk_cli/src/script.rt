@@ -28,11 +28,11 @@ pub struct Served {
 pub fn serve_script<S: Source, T: Sink>(alloc: Global, input: &mut S, output: &mut T) -> (u8, Desk)
     ensures settings { result.1.settings ≡ usual }
     ensures own { AreOwn 1 result.1.log }
-    ensures served { IsScriptServed (S.left input.old) (S.left input.new) (S.read_faults input.old) (S.read_faults input.new) (T.written output.old) (T.written output.new) (T.taken output.old) (T.taken output.new) (T.write_faults output.old) (T.write_faults output.new) result.1 result.0 }
+    ensures served { IsScriptServed (S.source input.old) (S.source input.new) (T.sink output.old) (T.sink output.new) result.1 result.0 }
     ensures fair { IsFairThroughout result.1 }
-    ensures all_read { result.0 ≡ 0 → IfSome (S.left input.new) (λ bytes. bytes ≡ []) }
-    ensures read_faults { S.read_faults input.old ≤ S.read_faults input.new }
-    ensures write_faults { T.write_faults output.old ≤ T.write_faults output.new }
+    ensures all_read { result.0 ≡ 0 → IfSome (S.source input.new).left (λ bytes. bytes ≡ []) }
+    ensures read_faults { (S.source input.old).faults ≤ (S.source input.new).faults }
+    ensures write_faults { (T.sink output.old).faults ≤ (T.sink output.new).faults }
 {
     let desk = Desk::new(alloc, Settings::usual());
     let mut service = Solo::new(desk, 1);
@@ -43,9 +43,9 @@ pub fn serve_script<S: Source, T: Sink>(alloc: Global, input: &mut S, output: &m
 
 /// Writes how a script ended, where that has a line, and answers the status.
 fn say_end<T: Sink>(alloc: Global, output: &mut T, end: ScriptEnd) -> u8
-    ensures said { IsLastSaid (T.written output.old) (T.written output.new) (T.taken output.old) (T.taken output.new) (T.write_faults output.old) (T.write_faults output.new) end result }
+    ensures said { IsLastSaid (T.sink output.old) (T.sink output.new) end result }
     ensures all_read { result ≡ 0 → end ≡ ScriptEnd.Ended }
-    ensures faults { T.write_faults output.old ≤ T.write_faults output.new }
+    ensures faults { (T.sink output.old).faults ≤ (T.sink output.new).faults }
 {
     match end {
         ScriptEnd::Ended => 0,
@@ -61,16 +61,16 @@ fn say_end<T: Sink>(alloc: Global, output: &mut T, end: ScriptEnd) -> u8
 
 /// Writes the line of a fault, and answers its status.
 fn say_fault<T: Sink>(alloc: Global, output: &mut T, fault: LineFault) -> u8
-    ensures said { IsWritten (T.written output.old) (T.written output.new) (T.taken output.old) (T.taken output.new) (T.write_faults output.old) (T.write_faults output.new) (fault_outcome fault) result }
-    ensures faults { T.write_faults output.old ≤ T.write_faults output.new }
+    ensures said { IsWritten (T.sink output.old) (T.sink output.new) (fault_outcome fault) result }
+    ensures faults { (T.sink output.old).faults ≤ (T.sink output.new).faults }
 {
     say_answer(alloc, output, fault_answer(alloc, fault))
 }
 
 /// Writes an answer, and answers its status, or 5 where the answer wanted memory.
 fn say_answer<T: Sink>(alloc: Global, output: &mut T, answer: Result<Answer, AllocError>) -> u8
-    ensures said { (outcome : Outcome) → IfOk answer (λ made. (string_bytes made.text ≡ outcome.output) × (made.status ≡ outcome.status)) → IsWritten (T.written output.old) (T.written output.new) (T.taken output.old) (T.taken output.new) (T.write_faults output.old) (T.write_faults output.new) outcome result }
-    ensures faults { T.write_faults output.old ≤ T.write_faults output.new }
+    ensures said { (outcome : Outcome) → IfOk answer (λ made. (string_bytes made.text ≡ outcome.output) × (made.status ≡ outcome.status)) → IsWritten (T.sink output.old) (T.sink output.new) outcome result }
+    ensures faults { (T.sink output.old).faults ≤ (T.sink output.new).faults }
 {
     match answer {
         Ok(answer) => say(alloc, output, answer.text.as_str(), answer.status),

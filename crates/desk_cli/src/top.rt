@@ -34,10 +34,10 @@ pub fn desk_top<S: Source, T: Sink>(
     input: &mut S,
     output: &mut T,
 ) -> Served
-    ensures ended { Ends (map string_bytes words.now) (S.left input.old) (S.left input.new) (S.read_faults input.old) (S.read_faults input.new) (T.written output.old) (T.written output.new) (T.taken output.old) (T.taken output.new) (T.write_faults output.old) (T.write_faults output.new) result }
-    ensures all_read { result.status ≡ 0 → IfSome (S.left input.new) (λ bytes. bytes ≡ []) }
-    ensures read_faults { S.read_faults input.old ≤ S.read_faults input.new }
-    ensures write_faults { T.write_faults output.old ≤ T.write_faults output.new }
+    ensures ended { Ends (map string_bytes words.now) (S.source input.old) (S.source input.new) (T.sink output.old) (T.sink output.new) result }
+    ensures all_read { result.status ≡ 0 → IfSome (S.source input.new).left (λ bytes. bytes ≡ []) }
+    ensures read_faults { (S.source input.old).faults ≤ (S.source input.new).faults }
+    ensures write_faults { (T.sink output.old).faults ≤ (T.sink output.new).faults }
 {
     if are_word(words, "auction") {
         let status = serve_auction(alloc, input, output);
@@ -66,10 +66,10 @@ fn are_word(words: &[String], word: &str) -> bool
 
 /// Reads an auction and writes its page, or why there is none.
 fn serve_auction<S: Source, T: Sink>(alloc: Global, input: &mut S, output: &mut T) -> u8
-    ensures ended { (outcome : Outcome) × IsAuctionOutcome (S.left input.old) (S.read_faults input.old) (S.read_faults input.new) outcome × IsWritten (T.written output.old) (T.written output.new) (T.taken output.old) (T.taken output.new) (T.write_faults output.old) (T.write_faults output.new) outcome result }
-    ensures all_read { result ≡ 0 → IfSome (S.left input.new) (λ bytes. bytes ≡ []) }
-    ensures read_faults { S.read_faults input.old ≤ S.read_faults input.new }
-    ensures write_faults { T.write_faults output.old ≤ T.write_faults output.new }
+    ensures ended { (outcome : Outcome) × IsAuctionOutcome (S.source input.old) (S.source input.new) outcome × IsWritten (T.sink output.old) (T.sink output.new) outcome result }
+    ensures all_read { result ≡ 0 → IfSome (S.source input.new).left (λ bytes. bytes ≡ []) }
+    ensures read_faults { (S.source input.old).faults ≤ (S.source input.new).faults }
+    ensures write_faults { (T.sink output.old).faults ≤ (T.sink output.new).faults }
 {
     match auction_answer(alloc, input) {
         Ok(answer) => say(alloc, output, answer.text.as_str(), answer.status),
@@ -79,9 +79,9 @@ fn serve_auction<S: Source, T: Sink>(alloc: Global, input: &mut S, output: &mut 
 
 /// Reads an auction, and answers its page or why there is none.
 fn auction_answer<S: Source>(alloc: Global, input: &mut S) -> Result<Answer, AllocError>
-    ensures outcome { IfOk result (λ answer. IsAuctionOutcome (S.left input.old) (S.read_faults input.old) (S.read_faults input.new) (record { output = string_bytes answer.text; status = answer.status })) }
-    ensures all_read { IfOk result (λ answer. answer.status ≡ 0 → IfSome (S.left input.new) (λ bytes. bytes ≡ [])) }
-    ensures faults { S.read_faults input.old ≤ S.read_faults input.new }
+    ensures outcome { IfOk result (λ answer. IsAuctionOutcome (S.source input.old) (S.source input.new) (record { output = string_bytes answer.text; status = answer.status })) }
+    ensures all_read { IfOk result (λ answer. answer.status ≡ 0 → IfSome (S.source input.new).left (λ bytes. bytes ≡ [])) }
+    ensures faults { (S.source input.old).faults ≤ (S.source input.new).faults }
 {
     match read_auction(alloc, input) {
         Ok(auction) => page_answer(alloc, &auction),

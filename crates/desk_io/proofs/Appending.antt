@@ -1,6 +1,7 @@
 -- Appending to what a sink tells: nothing, and twice in a row; beginnings of a list.
 use Rattle.std.proofs.Common.{◌≡◌, ℕ, ◌+◌, ◌-◌, ◌^◌, ◌<◌, min, List, [], ◌∷◌, ◌++◌, length, Option, Some, None, IfSome, refl, sym, ap, ◌∙◌, append_assoc, append-nil, length-append, arith}
 use Rattle.std.specs.Option.{option_map}
+use Rattle.desk_io.specs.SinkView.{SinkView}
 use Rattle.desk_io.specs.Writing.{Appends, IsProperPrefix}
 
 written_none : (written : Option (List ℕ)) → written ≡ option_map (λ before. before ++ []) written
@@ -12,8 +13,8 @@ taken_none None fits = refl
 taken_none (Some n) fits = let same : n ≡ min (n + 0) (2 ^ 64 - 1) = omega arith in ap Some same
 
 -- a sink that stays as it is was appended nothing
-pub Appends_none : (written : Option (List ℕ)) (taken : Option ℕ) → IfSome taken (λ n. n < 2 ^ 64) → Appends written written taken taken []
-Appends_none written taken fits = record { appended = written_none written; counted = taken_none taken fits }
+pub Appends_none : (sink : SinkView) → IfSome sink.taken (λ n. n < 2 ^ 64) → Appends sink sink []
+Appends_none sink fits = record { appended = written_none sink.written; counted = taken_none sink.taken fits }
 
 written_more : (written : Option (List ℕ)) (first second : List ℕ) → option_map (λ before. before ++ second) (option_map (λ before. before ++ first) written) ≡ option_map (λ before. before ++ (first ++ second)) written
 written_more None first second = refl
@@ -26,10 +27,10 @@ taken_more (Some n) first second =
     ap Some same
 
 -- what is appended in two goes is appended
-pub Appends_more : (w v u : Option (List ℕ)) (t s r : Option ℕ) (first second : List ℕ) → Appends w v t s first → Appends v u s r second → Appends w u t r (first ++ second)
-Appends_more w v u t s r first second one two = record {
-  appended = rw (two.appended, one.appended) (written_more w first second);
-  counted = rw (two.counted, one.counted) (taken_more t first second);
+pub Appends_more : (o p q : SinkView) (first second : List ℕ) → Appends o p first → Appends p q second → Appends o q (first ++ second)
+Appends_more o p q first second one two = record {
+  appended = rw (two.appended, one.appended) (written_more o.written first second);
+  counted = rw (two.counted, one.counted) (taken_more o.taken first second);
 }
 
 -- a beginning, but not all, of a list is one of any longer list

@@ -1,4 +1,6 @@
 pub mod Faults
+pub mod SourceView
+pub mod SinkView
 pub mod Reading
 pub mod Writing
 pub mod Lines

@@ -1,6 +1,7 @@
 -- A sink in memory as contracts see it, and what its writes answer.
-use Rattle.std.specs.Prelude.{ℕ, ◌-◌, ◌^◌, ◌==◌, if◌then◌else◌, List, ◌++◌, length, take, min}
+use Rattle.std.specs.Prelude.{ℕ, ◌-◌, ◌^◌, ◌==◌, if◌then◌else◌, List, ◌++◌, length, take, min, Some}
 use Rattle.desk_io.specs.Faults.{next_count}
+use Rattle.desk_io.specs.SinkView.{SinkView}
 use Rattle.desk_io.specs.SourceInMemory.{is_failing}
 use Rattle.desk_io.specs.declared.sink.Put.{Put}
 use Rattle.desk_io.specs.declared.sink.Put.TheVariants.{Took, Failed}
@@ -17,6 +18,10 @@ pub record SinkValue : Type 0 where
 -- the number of bytes that it took, as a count of 64 bits that stays at its last value
 abbrev pub bytes_taken : SinkValue → ℕ
 bytes_taken sink = min (length sink.written) (2 ^ 64 - 1)
+
+-- it tells what was written and how many bytes it took
+abbrev pub view_of_sink : SinkValue → SinkView
+view_of_sink sink = record { written = Some sink.written; taken = Some (bytes_taken sink); faults = sink.faults }
 
 -- what the next write answers to some bytes: it also fails where the room is full
 abbrev pub write_answer : SinkValue → ℕ → Put

@@ -1,7 +1,8 @@
 -- A source in memory as contracts see it, and what its reads answer.
-use Rattle.std.specs.Prelude.{ℕ, Bool, ◌==◌, if◌then◌else◌, List, length, drop, min}
+use Rattle.std.specs.Prelude.{ℕ, Bool, ◌==◌, if◌then◌else◌, List, length, drop, min, Some}
 use Rattle.std.specs.List.{list_any}
 use Rattle.desk_io.specs.Faults.{next_count}
+use Rattle.desk_io.specs.SourceView.{SourceView}
 use Rattle.desk_io.specs.declared.source.Got.{Got}
 use Rattle.desk_io.specs.declared.source.Got.TheVariants.{Bytes, End, Failed}
 
@@ -12,6 +13,10 @@ pub record SourceValue : Type 0 where
   pub cut : ℕ
   pub fails : List ℕ
   pub faults : ℕ
+
+-- it tells what it has left
+abbrev pub view_of_source : SourceValue → SourceView
+view_of_source source = record { left = Some source.left; faults = source.faults }
 
 -- the call of this number is one of those that fail
 abbrev pub is_failing : List ℕ → ℕ → Bool

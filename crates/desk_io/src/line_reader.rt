@@ -77,11 +77,11 @@ impl LineReader {
     /// `End` comes exactly where no byte is left, and `TooLong` exactly where more than `max` bytes stand before the line feed or the end. Only a line is taken from what is ahead, so that the call may be made again after a fault, which comes only where no whole line is held.
     pub fn next<S: Source>(&mut self, source: &mut S) -> LineGot
         ensures max { self.new.max ≡ self.old.max }
-        ensures lines { GivesLine self.old.max (ahead self.old (S.left source.old)) (ahead self.new (S.left source.new)) result self.new.line }
+        ensures lines { GivesLine self.old.max (ahead self.old (S.source source.old).left) (ahead self.new (S.source source.new).left) result self.new.line }
         ensures fits { LineFits self.old.max result self.new.line }
-        ensures ended { EndsLine (ahead self.old (S.left source.old)) result self.new }
-        ensures faults { S.read_faults source.old ≤ S.read_faults source.new }
-        ensures cause { LineCause (S.read_faults source.old) (S.read_faults source.new) result }
+        ensures ended { EndsLine (ahead self.old (S.source source.old).left) result self.new }
+        ensures faults { (S.source source.old).faults ≤ (S.source source.new).faults }
+        ensures cause { LineCause (S.source source.old).faults (S.source source.new).faults result }
     {
         self.forget_line();
         loop {
@@ -188,9 +188,9 @@ impl LineReader {
         requires { length self.old.held ≤ self.old.max }
         ensures max { self.new.max ≡ self.old.max }
         ensures line { self.new.line ≡ [] }
-        ensures bytes { Fills (S.left source.old) (S.left source.new) self.old.held self.new.held result }
-        ensures faults { S.read_faults source.old ≤ S.read_faults source.new }
-        ensures cause { ReadCause (S.read_faults source.old) (S.read_faults source.new) result }
+        ensures bytes { Fills (S.source source.old).left (S.source source.new).left self.old.held self.new.held result }
+        ensures faults { (S.source source.old).faults ≤ (S.source source.new).faults }
+        ensures cause { ReadCause (S.source source.old).faults (S.source source.new).faults result }
     {
         self.window.fill(source)
     }

@@ -1,7 +1,7 @@
 //! A sink in memory, for tests: it takes bytes in pieces, and fails where it is told to or where it is full.
 
 ghost use Rattle.std.specs.Prelude.{◌≡◌, ◌<◌, ◌≤◌, [], length, IfOk};
-ghost use Rattle.desk_io.specs.SinkInMemory.{bytes_taken, write_answer, after_write};
+ghost use Rattle.desk_io.specs.SinkInMemory.{view_of_sink, write_answer, after_write};
 ghost use Rattle.desk_io.specs.Writing.{Writes, WritesWithin, WriteCause};
 
 use crate::{NoMemory, Put, Sink};
@@ -57,15 +57,10 @@ impl MemSink {
 }
 
 impl Sink for MemSink {
-    ghost use Rattle.std.specs.Prelude.{Some};
-    ghost use Rattle.desk_io.specs.SinkInMemory.{bytes_taken};
+    ghost use Rattle.desk_io.specs.SinkInMemory.{view_of_sink};
     ghost use Rattle.std.proofs.Common.{arith};
 
-    ghost written = { λ s. Some s.written };
-
-    ghost taken = { λ s. Some (bytes_taken s) };
-
-    ghost write_faults = { λ s. s.faults };
+    ghost sink = { λ s. view_of_sink s };
 
     ghost taken_fits = { λ s. Prim.omega arith };
 
@@ -73,7 +68,7 @@ impl Sink for MemSink {
     fn write(&mut self, bytes: &[u8]) -> Put
         requires { 0 < length bytes.now }
         ensures within { WritesWithin result (length bytes.now) }
-        ensures bytes { Writes (Some self.old.written) (Some self.new.written) (Some (bytes_taken self.old)) (Some (bytes_taken self.new)) result bytes.now }
+        ensures bytes { Writes (view_of_sink self.old) (view_of_sink self.new) result bytes.now }
         ensures faults { self.old.faults ≤ self.new.faults }
         ensures cause { WriteCause self.old.faults self.new.faults result }
         ensures answer { result ≡ write_answer self.old (length bytes.now) }

@@ -49,11 +49,9 @@ impl MemSource {
 }
 
 impl Source for MemSource {
-    ghost use Rattle.std.specs.Prelude.{Some};
+    ghost use Rattle.desk_io.specs.SourceInMemory.{view_of_source};
 
-    ghost left = { λ s. Some s.left };
-
-    ghost read_faults = { λ s. s.faults };
+    ghost source = { λ s. view_of_source s };
 
     /// Gives the next bytes, at most `cut`, or fails where this read's number says so.
     fn read(&mut self, room: &mut [u8]) -> Got

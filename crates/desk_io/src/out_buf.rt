@@ -50,10 +50,10 @@ impl OutBuf {
     ///
     /// After a fault a beginning of what waited and of the bytes is written, and never the whole.
     pub fn put<T: Sink>(&mut self, sink: &mut T, bytes: &[u8]) -> Result<(), WriteFault>
-        ensures put { OnOk result ((sent : List ℕ) × Appends (T.written sink.old) (T.written sink.new) (T.taken sink.old) (T.taken sink.new) sent × (sent ++ self.new ≡ self.old ++ bytes.now)) }
-        ensures fault { OnErr result ((sent : List ℕ) × Appends (T.written sink.old) (T.written sink.new) (T.taken sink.old) (T.taken sink.new) sent × IsProperPrefix sent (self.old ++ bytes.now)) }
-        ensures faults { T.write_faults sink.old ≤ T.write_faults sink.new }
-        ensures cause { OnErr result (Rose (T.write_faults sink.old) (T.write_faults sink.new)) }
+        ensures put { OnOk result ((sent : List ℕ) × Appends (T.sink sink.old) (T.sink sink.new) sent × (sent ++ self.new ≡ self.old ++ bytes.now)) }
+        ensures fault { OnErr result ((sent : List ℕ) × Appends (T.sink sink.old) (T.sink sink.new) sent × IsProperPrefix sent (self.old ++ bytes.now)) }
+        ensures faults { (T.sink sink.old).faults ≤ (T.sink sink.new).faults }
+        ensures cause { OnErr result (Rose (T.sink sink.old).faults (T.sink sink.new).faults) }
     {
         if bytes.len() <= ROOM - self.waiting.len() {
             self.hold(bytes);
@@ -71,10 +71,10 @@ impl OutBuf {
     ///
     /// After a fault a beginning of what waited is written, and never the whole.
     pub fn flush<T: Sink>(&mut self, sink: &mut T) -> Result<(), WriteFault>
-        ensures flushed { OnOk result (Appends (T.written sink.old) (T.written sink.new) (T.taken sink.old) (T.taken sink.new) self.old × (self.new ≡ [])) }
-        ensures fault { OnErr result ((sent : List ℕ) × Appends (T.written sink.old) (T.written sink.new) (T.taken sink.old) (T.taken sink.new) sent × IsProperPrefix sent self.old) }
-        ensures faults { T.write_faults sink.old ≤ T.write_faults sink.new }
-        ensures cause { OnErr result (Rose (T.write_faults sink.old) (T.write_faults sink.new)) }
+        ensures flushed { OnOk result (Appends (T.sink sink.old) (T.sink sink.new) self.old × (self.new ≡ [])) }
+        ensures fault { OnErr result ((sent : List ℕ) × Appends (T.sink sink.old) (T.sink sink.new) sent × IsProperPrefix sent self.old) }
+        ensures faults { (T.sink sink.old).faults ≤ (T.sink sink.new).faults }
+        ensures cause { OnErr result (Rose (T.sink sink.old).faults (T.sink sink.new).faults) }
     {
         write_all(sink, &self.waiting)?;
         self.waiting.clear();
@@ -95,10 +95,10 @@ impl OutBuf {
 
 // Writes all of the bytes to the sink.
 fn write_all<T: Sink>(sink: &mut T, bytes: &[u8]) -> Result<(), WriteFault>
-    ensures written { OnOk result (Appends (T.written sink.old) (T.written sink.new) (T.taken sink.old) (T.taken sink.new) bytes.now) }
-    ensures fault { OnErr result ((sent : List ℕ) × Appends (T.written sink.old) (T.written sink.new) (T.taken sink.old) (T.taken sink.new) sent × IsProperPrefix sent bytes.now) }
-    ensures faults { T.write_faults sink.old ≤ T.write_faults sink.new }
-    ensures cause { OnErr result (Rose (T.write_faults sink.old) (T.write_faults sink.new)) }
+    ensures written { OnOk result (Appends (T.sink sink.old) (T.sink sink.new) bytes.now) }
+    ensures fault { OnErr result ((sent : List ℕ) × Appends (T.sink sink.old) (T.sink sink.new) sent × IsProperPrefix sent bytes.now) }
+    ensures faults { (T.sink sink.old).faults ≤ (T.sink sink.new).faults }
+    ensures cause { OnErr result (Rose (T.sink sink.old).faults (T.sink sink.new).faults) }
 {
     let mut rest = bytes;
     while !rest.is_empty() {

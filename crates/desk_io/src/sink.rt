@@ -14,13 +14,10 @@ pub enum Put {
 
 /// A sink of bytes, which may tell what was written and how many bytes it took, and counts its faults.
 pub trait Sink {
-    ghost use Rattle.std.specs.Prelude.{Option, List, ℕ, ◌<◌, ◌^◌, IfSome};
+    ghost use Rattle.std.specs.Prelude.{◌<◌, ◌^◌, IfSome};
+    ghost use Rattle.desk_io.specs.SinkView.{SinkView};
 
-    ghost written: { Self → Option (List ℕ) };
-
-    ghost taken: { Self → Option ℕ };
-
-    ghost write_faults: { Self → ℕ };
+    ghost sink: { Self → SinkView };
 
     /// Appends the first of the bytes, which are not empty.
     ///
@@ -28,10 +25,10 @@ pub trait Sink {
     fn write(&mut self, bytes: &[u8]) -> Put
         requires { 0 < length bytes.now }
         ensures within { WritesWithin result (length bytes.now) }
-        ensures bytes { Writes (written self.old) (written self.new) (taken self.old) (taken self.new) result bytes.now }
-        ensures faults { write_faults self.old ≤ write_faults self.new }
-        ensures cause { WriteCause (write_faults self.old) (write_faults self.new) result };
+        ensures bytes { Writes (sink self.old) (sink self.new) result bytes.now }
+        ensures faults { (sink self.old).faults ≤ (sink self.new).faults }
+        ensures cause { WriteCause (sink self.old).faults (sink self.new).faults result };
 
     // the number of bytes taken is one of 64 bits
-    ghost taken_fits: { (s : Self) → IfSome (taken s) (λ n. n < 2 ^ 64) };
+    ghost taken_fits: { (s : Self) → IfSome (sink s).taken (λ n. n < 2 ^ 64) };
 }

@@ -16,11 +16,9 @@ pub enum Got {
 
 /// A source of bytes, which may tell what it has left and counts its faults.
 pub trait Source {
-    ghost use Rattle.std.specs.Prelude.{Option, List, ℕ};
+    ghost use Rattle.desk_io.specs.SourceView.{SourceView};
 
-    ghost left: { Self → Option (List ℕ) };
-
-    ghost read_faults: { Self → ℕ };
+    ghost source: { Self → SourceView };
 
     /// Moves the first bytes that are left into the room, which is not empty.
     ///
@@ -28,7 +26,7 @@ pub trait Source {
     fn read(&mut self, room: &mut [u8]) -> Got
         requires { 0 < length room.old }
         ensures within { ReadsWithin result (length room.old) }
-        ensures bytes { Reads (left self.old) (left self.new) result room.new }
-        ensures faults { read_faults self.old ≤ read_faults self.new }
-        ensures cause { ReadCause (read_faults self.old) (read_faults self.new) result };
+        ensures bytes { Reads (source self.old).left (source self.new).left result room.new }
+        ensures faults { (source self.old).faults ≤ (source self.new).faults }
+        ensures cause { ReadCause (source self.old).faults (source self.new).faults result };
 }

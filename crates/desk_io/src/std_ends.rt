@@ -29,9 +29,7 @@ impl<R: Read> Source for StdSource<R> {
     ghost use Rattle.std.specs.Prelude.{None};
     ghost use Rattle.desk_io.specs.StdEnds.{read_failures};
 
-    ghost left = { λ _. None };
-
-    ghost read_faults = { read_failures };
+    ghost source = { λ s. record { left = None; faults = read_failures s } };
 
     /// Reads once. A read of no byte is the end.
     fn read(&mut self, room: &mut [u8]) -> Got {
@@ -69,11 +67,7 @@ impl<W: Write> Sink for StdSink<W> {
     ghost use Rattle.std.specs.Prelude.{None};
     ghost use Rattle.desk_io.specs.StdEnds.{write_failures};
 
-    ghost written = { λ _. None };
-
-    ghost taken = { λ _. None };
-
-    ghost write_faults = { write_failures };
+    ghost sink = { λ s. record { written = None; taken = None; faults = write_failures s } };
 
     ghost taken_fits = { λ _. tt };
 

@@ -98,9 +98,9 @@ impl Window {
         requires { 0 < self.old.behind }
         ensures line { self.new.line ≡ [] }
         ensures size { self.new.size ≡ self.old.size }
-        ensures bytes { Fills (S.left source.old) (S.left source.new) self.old.held self.new.held result }
-        ensures faults { S.read_faults source.old ≤ S.read_faults source.new }
-        ensures cause { ReadCause (S.read_faults source.old) (S.read_faults source.new) result }
+        ensures bytes { Fills (S.source source.old).left (S.source source.new).left self.old.held self.new.held result }
+        ensures faults { (S.source source.old).faults ≤ (S.source source.new).faults }
+        ensures cause { ReadCause (S.source source.old).faults (S.source source.new).faults result }
     {
         self.line_start = 0;
         self.line_end = 0;
@@ -114,9 +114,9 @@ impl Window {
         requires { length self.old.held < self.old.size }
         ensures line { self.new.line ≡ [] }
         ensures size { self.new.size ≡ self.old.size }
-        ensures bytes { Fills (S.left source.old) (S.left source.new) self.old.held self.new.held result }
-        ensures faults { S.read_faults source.old ≤ S.read_faults source.new }
-        ensures cause { ReadCause (S.read_faults source.old) (S.read_faults source.new) result }
+        ensures bytes { Fills (S.source source.old).left (S.source source.new).left self.old.held self.new.held result }
+        ensures faults { (S.source source.old).faults ≤ (S.source source.new).faults }
+        ensures cause { ReadCause (S.source source.old).faults (S.source source.new).faults result }
     {
         self.make_room();
         self.take_in(source)

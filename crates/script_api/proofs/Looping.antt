@@ -14,6 +14,7 @@ use Rattle.desk_types.proofs.ServedInTurn.{Served-none, Served-append}
 use Rattle.desk_io.specs.Lines.{Line, lines, first_line, after_first_line}
 use Rattle.desk_io.specs.NextLine.{ahead}
 use Rattle.desk_io.specs.Reader.{ReaderValue}
+use Rattle.desk_io.specs.SinkView.{SinkView}
 use Rattle.desk_io.proofs.LineCuts.{cut-some}
 use Rattle.script_api.specs.declared.ending.ScriptEnd.{ScriptEnd}
 use Rattle.script_api.specs.declared.ending.ScriptEnd.TheVariants.{Ended, BadLine, LongLine, TooManyLines, NotBuilt, ReadFault, WriteFault, NoMemory}
@@ -116,46 +117,46 @@ cut-turn (Some bytes) None reader left before calls more ending taken takes is =
 cut-turn (Some bytes) (Some rest) reader left before calls more ending taken takes is = cut-off bytes rest reader left before calls more taken (takes.untaken is)
 
 -- the turns so far
-pub record AreTurnsSoFar (me : ℕ) (opening : State) (seen seen' : List Entry) (before : ℕ) (whole rest : Option (List ℕ)) (w w' : Option (List ℕ)) (t t' : Option ℕ) (waiting : List ℕ) : Type 0 where
+pub record AreTurnsSoFar (me : ℕ) (opening : State) (seen seen' : List Entry) (before : ℕ) (whole rest : Option (List ℕ)) (o o' : SinkView) (waiting : List ℕ) : Type 0 where
   pub calls : List (ℕ × Call)
   pub results : List (Result Reply Fault)
   pub served : Served me opening seen calls results seen'
   pub taken : AreTaken whole rest before calls
-  pub puts : IsPut w w' t t' (flat_map answer_line results) waiting
+  pub puts : IsPut o o' (flat_map answer_line results) waiting
 
-pub so_far-none : (me : ℕ) (opening : State) (seen : List Entry) (whole : Option (List ℕ)) (w : Option (List ℕ)) (t : Option ℕ) (waiting : List ℕ) →
-    IsLegal opening.settings seen → IfSome t (λ n. n < 2 ^ 64) → waiting ≡ [] → AreTurnsSoFar me opening seen seen 0 whole whole w w t t waiting
-so_far-none me opening seen whole w t waiting legal fits none = record {
+pub so_far-none : (me : ℕ) (opening : State) (seen : List Entry) (whole : Option (List ℕ)) (o : SinkView) (waiting : List ℕ) →
+    IsLegal opening.settings seen → IfSome o.taken (λ n. n < 2 ^ 64) → waiting ≡ [] → AreTurnsSoFar me opening seen seen 0 whole whole o o waiting
+so_far-none me opening seen whole o waiting legal fits none = record {
   calls = [];
   results = [];
   served = Served-none me opening seen legal;
   taken = taken-start whole;
-  puts = IsPut-same w t [] waiting fits none;
+  puts = IsPut-same o [] waiting fits none;
 }
 
 answers-append : (results more : List (Result Reply Fault)) → flat_map answer_line results ++ flat_map answer_line more ≡ flat_map answer_line (results ++ more)
 answers-append results more = sym (flat_map-append answer_line results more)
 
-module _ (me : ℕ) (opening : State) (seen seen' seen'' : List Entry) (before : ℕ) (whole rest now : Option (List ℕ)) (w w' w'' : Option (List ℕ)) (t t' t'' : Option ℕ) (waiting waiting' : List ℕ) where
-  pub so_far-more : (held : List ℕ) → AreTurnsSoFar me opening seen seen' before whole rest w w' t t' waiting → IsTurn me opening seen' seen'' before rest now held w' w'' t' t'' waiting waiting' (Ok tt) →
-      AreTurnsSoFar me opening seen seen'' (before + 1) whole now w w'' t t'' waiting'
+module _ (me : ℕ) (opening : State) (seen seen' seen'' : List Entry) (before : ℕ) (whole rest now : Option (List ℕ)) (o o' o'' : SinkView) (waiting waiting' : List ℕ) where
+  pub so_far-more : (held : List ℕ) → AreTurnsSoFar me opening seen seen' before whole rest o o' waiting → IsTurn me opening seen' seen'' before rest now held o' o'' waiting waiting' (Ok tt) →
+      AreTurnsSoFar me opening seen seen'' (before + 1) whole now o o'' waiting'
   so_far-more held so_far turn = record {
     calls = so_far.calls ++ turn.calls;
     results = so_far.results ++ turn.results;
     served = Served-append me opening seen seen' seen'' so_far.calls turn.calls so_far.results turn.results so_far.served turn.served;
     taken = taken-turn whole rest now held before so_far.calls turn.calls so_far.taken turn.takes;
-    puts = subst (λ all. IsPut w w'' t t'' all waiting') (answers-append so_far.results turn.results)
-        (IsPut-behind w w' w'' t t' t'' (flat_map answer_line so_far.results) waiting (flat_map answer_line turn.results) waiting' so_far.puts turn.puts);
+    puts = subst (λ all. IsPut o o'' all waiting') (answers-append so_far.results turn.results)
+        (IsPut-behind o o' o'' (flat_map answer_line so_far.results) waiting (flat_map answer_line turn.results) waiting' so_far.puts turn.puts);
   }
 
-  pub so_far-end : (reader : ReaderValue) (left : Option (List ℕ)) (ending : ScriptEnd) → AreTurnsSoFar me opening seen seen' before whole rest w w' t t' waiting →
-      IsTurn me opening seen' seen'' before rest (ahead reader left) reader.held w' w'' t' t'' waiting waiting' (Err ending) → AreTurns me opening seen seen'' whole left w w'' t t'' waiting' ending
+  pub so_far-end : (reader : ReaderValue) (left : Option (List ℕ)) (ending : ScriptEnd) → AreTurnsSoFar me opening seen seen' before whole rest o o' waiting →
+      IsTurn me opening seen' seen'' before rest (ahead reader left) reader.held o' o'' waiting waiting' (Err ending) → AreTurns me opening seen seen'' whole left o o'' waiting' ending
   so_far-end reader left ending so_far turn = record {
     calls = so_far.calls ++ turn.calls;
     results = so_far.results ++ turn.results;
     served = Served-append me opening seen seen' seen'' so_far.calls turn.calls so_far.results turn.results so_far.served turn.served;
     made = made-turn whole rest (ahead reader left) reader.held before so_far.calls turn.calls ending so_far.taken turn.takes;
     cut_off = λ is. cut-turn whole rest reader left before so_far.calls turn.calls ending so_far.taken turn.takes is;
-    puts = subst (λ all. ArePut w w'' t t'' all waiting' (Err ending)) (answers-append so_far.results turn.results)
-        (ArePut-behind w w' w'' t t' t'' (flat_map answer_line so_far.results) waiting (flat_map answer_line turn.results) waiting' (Err ending) so_far.puts turn.puts);
+    puts = subst (λ all. ArePut o o'' all waiting' (Err ending)) (answers-append so_far.results turn.results)
+        (ArePut-behind o o' o'' (flat_map answer_line so_far.results) waiting (flat_map answer_line turn.results) waiting' (Err ending) so_far.puts turn.puts);
   }

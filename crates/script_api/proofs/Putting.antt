@@ -1,6 +1,7 @@
 -- Bytes that are put before a sink: some are appended to what it took, the others wait.
-use Rattle.std.proofs.Common.{◌≡◌, ℕ, ◌<◌, ◌^◌, List, [], ◌++◌, Option, IfSome, sym, ap, subst, ◌∙◌, append_assoc, append-nil, arith}
+use Rattle.std.proofs.Common.{◌≡◌, ℕ, ◌<◌, ◌^◌, List, [], ◌++◌, IfSome, sym, ap, subst, ◌∙◌, append_assoc, append-nil, arith}
 use Rattle.std.specs.Prelude.{Ok, Err}
+use Rattle.desk_io.specs.SinkView.{SinkView}
 use Rattle.desk_io.specs.Writing.{Appends, IsPrefix, IsProperPrefix}
 use Rattle.desk_io.proofs.Appending.{Appends_none, Appends_more, IsProperPrefix_behind}
 use Rattle.script_api.specs.declared.ending.ScriptEnd.{ScriptEnd}
@@ -9,45 +10,45 @@ use Rattle.script_api.specs.ScriptRun.{EndCause}
 use Rattle.script_api.specs.Turn.{Going, IsPut, IsBroken, ArePut}
 
 -- a sink that stays as it is, and bytes that wait
-pub IsPut-same : (w : Option (List ℕ)) (t : Option ℕ) (bytes waiting : List ℕ) → IfSome t (λ n. n < 2 ^ 64) → waiting ≡ bytes → IsPut w w t t bytes waiting
-IsPut-same w t bytes waiting fits same = ([], Appends_none w t fits, same)
+pub IsPut-same : (o : SinkView) (bytes waiting : List ℕ) → IfSome o.taken (λ n. n < 2 ^ 64) → waiting ≡ bytes → IsPut o o bytes waiting
+IsPut-same o bytes waiting fits same = ([], Appends_none o fits, same)
 
 -- all that waited was written
-pub IsPut-flushed : (w v : Option (List ℕ)) (t s : Option ℕ) (bytes waiting : List ℕ) → Appends w v t s bytes → waiting ≡ [] → IsPut w v t s bytes waiting
-IsPut-flushed w v t s bytes waiting appends none = (bytes, appends, ap (λ rest. bytes ++ rest) none ∙ append-nil bytes)
+pub IsPut-flushed : (o p : SinkView) (bytes waiting : List ℕ) → Appends o p bytes → waiting ≡ [] → IsPut o p bytes waiting
+IsPut-flushed o p bytes waiting appends none = (bytes, appends, ap (λ rest. bytes ++ rest) none ∙ append-nil bytes)
 
 -- what was put at an end that is no failed write
-pub ArePut-other : (w v : Option (List ℕ)) (t s : Option ℕ) (bytes waiting : List ℕ) (reads reads' : ℕ) (ending : ScriptEnd) →
-    EndCause reads reads' 0 0 ending → IsPut w v t s bytes waiting → ArePut w v t s bytes waiting (Err ending)
-ArePut-other w v t s bytes waiting reads reads' Ended cause put = put
-ArePut-other w v t s bytes waiting reads reads' (BadLine number) cause put = put
-ArePut-other w v t s bytes waiting reads reads' (LongLine number) cause put = put
-ArePut-other w v t s bytes waiting reads reads' TooManyLines cause put = put
-ArePut-other w v t s bytes waiting reads reads' (NotBuilt number) cause put = put
-ArePut-other w v t s bytes waiting reads reads' ReadFault cause put = put
-ArePut-other w v t s bytes waiting reads reads' WriteFault cause put = absurd (omega (arith, cause))
-ArePut-other w v t s bytes waiting reads reads' NoMemory cause (sent, appends, whole) = (sent, appends, ([], sym whole ∙ sym (append-nil (sent ++ waiting))))
+pub ArePut-other : (o p : SinkView) (bytes waiting : List ℕ) (reads reads' : ℕ) (ending : ScriptEnd) →
+    EndCause reads reads' 0 0 ending → IsPut o p bytes waiting → ArePut o p bytes waiting (Err ending)
+ArePut-other o p bytes waiting reads reads' Ended cause put = put
+ArePut-other o p bytes waiting reads reads' (BadLine number) cause put = put
+ArePut-other o p bytes waiting reads reads' (LongLine number) cause put = put
+ArePut-other o p bytes waiting reads reads' TooManyLines cause put = put
+ArePut-other o p bytes waiting reads reads' (NotBuilt number) cause put = put
+ArePut-other o p bytes waiting reads reads' ReadFault cause put = put
+ArePut-other o p bytes waiting reads reads' WriteFault cause put = absurd (omega (arith, cause))
+ArePut-other o p bytes waiting reads reads' NoMemory cause (sent, appends, whole) = (sent, appends, ([], sym whole ∙ sym (append-nil (sent ++ waiting))))
 
 -- for want of memory nothing more was put
-pub ArePut-wanting : (w v : Option (List ℕ)) (t s : Option ℕ) (bytes waiting : List ℕ) → IsPut w v t s bytes waiting → ArePut w v t s bytes waiting (Err NoMemory)
-ArePut-wanting w v t s bytes waiting put = ArePut-other w v t s bytes waiting 0 0 NoMemory tt put
+pub ArePut-wanting : (o p : SinkView) (bytes waiting : List ℕ) → IsPut o p bytes waiting → ArePut o p bytes waiting (Err NoMemory)
+ArePut-wanting o p bytes waiting put = ArePut-other o p bytes waiting 0 0 NoMemory tt put
 
 -- what was put behind what had been put
-module _ (w v u : Option (List ℕ)) (t s r : Option ℕ) (bytes waiting more waiting' : List ℕ) where
+module _ (o p q : SinkView) (bytes waiting more waiting' : List ℕ) where
   whole_behind : (sent : List ℕ) → sent ++ waiting ≡ bytes → sent ++ (waiting ++ more) ≡ bytes ++ more
   whole_behind sent whole = sym (append_assoc sent waiting more) ∙ ap (λ front. front ++ more) whole
 
-  pub IsPut-behind : IsPut w v t s bytes waiting → IsPut v u s r (waiting ++ more) waiting' → IsPut w u t r (bytes ++ more) waiting'
+  pub IsPut-behind : IsPut o p bytes waiting → IsPut p q (waiting ++ more) waiting' → IsPut o q (bytes ++ more) waiting'
   IsPut-behind (sent, appends, whole) (sent', appends', whole') = (
     sent ++ sent',
-    Appends_more w v u t s r sent sent' appends appends',
+    Appends_more o p q sent sent' appends appends',
     append_assoc sent sent' waiting' ∙ ap (λ rest. sent ++ rest) whole' ∙ whole_behind sent whole,
   )
 
-  pub IsBroken-behind : IsPut w v t s bytes waiting → IsBroken v u s r (waiting ++ more) → IsBroken w u t r (bytes ++ more)
+  pub IsBroken-behind : IsPut o p bytes waiting → IsBroken p q (waiting ++ more) → IsBroken o q (bytes ++ more)
   IsBroken-behind (sent, appends, whole) (sent', appends', part) = (
     sent ++ sent',
-    Appends_more w v u t s r sent sent' appends appends',
+    Appends_more o p q sent sent' appends appends',
     subst (λ (all : List ℕ). IsProperPrefix (sent ++ sent') all) (whole_behind sent whole) (IsProperPrefix_behind sent sent' (waiting ++ more) part),
   )
 
@@ -55,7 +56,7 @@ module _ (w v u : Option (List ℕ)) (t s r : Option ℕ) (bytes waiting more wa
   prefix-behind sent sent' whole (rest, is) =
       (rest, sym (whole_behind sent whole) ∙ ap (λ all. sent ++ all) is ∙ sym (append_assoc sent (sent' ++ waiting') rest) ∙ ap (λ front. front ++ rest) (sym (append_assoc sent sent' waiting')))
 
-  pub ArePut-behind : (going : Going) → IsPut w v t s bytes waiting → ArePut v u s r (waiting ++ more) waiting' going → ArePut w u t r (bytes ++ more) waiting' going
+  pub ArePut-behind : (going : Going) → IsPut o p bytes waiting → ArePut p q (waiting ++ more) waiting' going → ArePut o q (bytes ++ more) waiting' going
   ArePut-behind (Ok one) before put = IsPut-behind before put
   ArePut-behind (Err Ended) before put = IsPut-behind before put
   ArePut-behind (Err (BadLine number)) before put = IsPut-behind before put
@@ -66,10 +67,10 @@ module _ (w v u : Option (List ℕ)) (t s r : Option ℕ) (bytes waiting more wa
   ArePut-behind (Err WriteFault) before put = IsBroken-behind before put
   ArePut-behind (Err NoMemory) before put = (
     before.0 ++ put.0,
-    Appends_more w v u t s r before.0 put.0 before.1 put.1,
+    Appends_more o p q before.0 put.0 before.1 put.1,
     prefix-behind before.0 put.0 before.2 put.2,
   )
 
 -- the same, where nothing more was put
-pub ArePut-nothing : (w v : Option (List ℕ)) (t s : Option ℕ) (bytes waiting : List ℕ) (going : Going) → ArePut w v t s bytes waiting going → ArePut w v t s (bytes ++ []) waiting going
-ArePut-nothing w v t s bytes waiting going put = subst (λ all. ArePut w v t s all waiting going) (sym (append-nil bytes)) put
+pub ArePut-nothing : (o p : SinkView) (bytes waiting : List ℕ) (going : Going) → ArePut o p bytes waiting going → ArePut o p (bytes ++ []) waiting going
+ArePut-nothing o p bytes waiting going put = subst (λ all. ArePut o p all waiting going) (sym (append-nil bytes)) put

@@ -9,6 +9,8 @@ use Rattle.desk_types.specs.Serving.{Served}
 use Rattle.desk_types.specs.State.{State}
 use Rattle.desk_io.specs.Faults.{Rose}
 use Rattle.desk_io.specs.Lines.{has_line_feed}
+use Rattle.desk_io.specs.SinkView.{SinkView}
+use Rattle.desk_io.specs.SourceView.{SourceView}
 use Rattle.desk_io.specs.Writing.{Appends, IsPrefix, IsProperPrefix}
 use Rattle.script_api.specs.declared.ending.ScriptEnd.{ScriptEnd}
 use Rattle.script_api.specs.declared.ending.ScriptEnd.TheVariants.{Ended, BadLine, LongLine, TooManyLines, NotBuilt, ReadFault, WriteFault, NoMemory}
@@ -44,24 +46,24 @@ pub record IsCutOff (bytes : List ℕ) (left : Option (List ℕ)) (calls : List 
   pub told : script_of part ≡ record { calls = calls; end = Ended }
 
 -- the lines are written: all of them, or after a failed write a beginning and not all, or for want of memory a beginning
-abbrev pub AreWritten : Option (List ℕ) → Option (List ℕ) → Option ℕ → Option ℕ → List ℕ → ScriptEnd → Type 0
-AreWritten written written_now taken taken_now lines Ended = Appends written written_now taken taken_now lines
-AreWritten written written_now taken taken_now lines (BadLine number) = Appends written written_now taken taken_now lines
-AreWritten written written_now taken taken_now lines (LongLine number) = Appends written written_now taken taken_now lines
-AreWritten written written_now taken taken_now lines TooManyLines = Appends written written_now taken taken_now lines
-AreWritten written written_now taken taken_now lines (NotBuilt number) = Appends written written_now taken taken_now lines
-AreWritten written written_now taken taken_now lines ReadFault = Appends written written_now taken taken_now lines
-AreWritten written written_now taken taken_now lines WriteFault = (sent : List ℕ) × Appends written written_now taken taken_now sent × IsProperPrefix sent lines
-AreWritten written written_now taken taken_now lines NoMemory = (sent : List ℕ) × Appends written written_now taken taken_now sent × IsPrefix sent lines
+abbrev pub AreWritten : SinkView → SinkView → List ℕ → ScriptEnd → Type 0
+AreWritten sink sink_now lines Ended = Appends sink sink_now lines
+AreWritten sink sink_now lines (BadLine number) = Appends sink sink_now lines
+AreWritten sink sink_now lines (LongLine number) = Appends sink sink_now lines
+AreWritten sink sink_now lines TooManyLines = Appends sink sink_now lines
+AreWritten sink sink_now lines (NotBuilt number) = Appends sink sink_now lines
+AreWritten sink sink_now lines ReadFault = Appends sink sink_now lines
+AreWritten sink sink_now lines WriteFault = (sent : List ℕ) × Appends sink sink_now sent × IsProperPrefix sent lines
+AreWritten sink sink_now lines NoMemory = (sent : List ℕ) × Appends sink sink_now sent × IsPrefix sent lines
 
 -- a run of the script that a source holds: calls are made and served one after another, and the lines of their results are written
-pub record IsRun (me : ℕ) (opening : State) (seen seen_now : List Entry) (left left_now : Option (List ℕ)) (written written_now : Option (List ℕ)) (taken taken_now : Option ℕ) (ending : ScriptEnd) : Type 0 where
+pub record IsRun (me : ℕ) (opening : State) (seen seen_now : List Entry) (source source_now : SourceView) (sink sink_now : SinkView) (ending : ScriptEnd) : Type 0 where
   pub calls : List (ℕ × Call)
   pub results : List (Result Reply Fault)
   pub served : Served me opening seen calls results seen_now
-  pub made : IfSome left (λ bytes. AreMade (script_of bytes) calls ending)
-  pub cut_off : ending ≡ ReadFault → IfSome left (λ bytes. IsCutOff bytes left_now calls)
-  pub lines : AreWritten written written_now taken taken_now (flat_map answer_line results) ending
+  pub made : IfSome source.left (λ bytes. AreMade (script_of bytes) calls ending)
+  pub cut_off : ending ≡ ReadFault → IfSome source.left (λ bytes. IsCutOff bytes source_now.left calls)
+  pub lines : AreWritten sink sink_now (flat_map answer_line results) ending
 
 -- a fault is the end only where its count rose
 abbrev pub EndCause : ℕ → ℕ → ℕ → ℕ → ScriptEnd → Type 0

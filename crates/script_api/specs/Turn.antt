@@ -10,7 +10,8 @@ use Rattle.desk_types.specs.State.{State}
 use Rattle.desk_io.specs.Lines.{has_line_feed, lines, first_line, after_first_line}
 use Rattle.desk_io.specs.NextLine.{IsFirstLine}
 use Rattle.desk_io.specs.Reader.{ReaderValue}
-use Rattle.desk_io.specs.Writing.{Appends, IsPrefix, IsProperPrefix}
+use Rattle.desk_io.specs.SinkView.{SinkView}
+use Rattle.desk_io.specs.Writing.{Appends, AppendsNothing, IsPrefix, IsProperPrefix}
 use Rattle.script_api.specs.declared.limits.TheConstants.{LINE_MAX}
 use Rattle.script_api.specs.declared.ending.ScriptEnd.{ScriptEnd}
 use Rattle.script_api.specs.declared.ending.ScriptEnd.TheVariants.{Ended, BadLine, LongLine, TooManyLines, NotBuilt, ReadFault, WriteFault, NoMemory}
@@ -25,26 +26,26 @@ abbrev pub Going : Type 0
 Going = Result (Unit {0}) ScriptEnd
 
 -- some of the bytes were appended, and the others wait
-abbrev pub IsPut : Option (List ℕ) → Option (List ℕ) → Option ℕ → Option ℕ → List ℕ → List ℕ → Type 0
-IsPut written written_now taken taken_now bytes waiting =
-    (sent : List ℕ) × Appends written written_now taken taken_now sent × (sent ++ waiting ≡ bytes)
+abbrev pub IsPut : SinkView → SinkView → List ℕ → List ℕ → Type 0
+IsPut sink sink_now bytes waiting =
+    (sent : List ℕ) × Appends sink sink_now sent × (sent ++ waiting ≡ bytes)
 
 -- a beginning of the bytes was appended, and not all
-abbrev pub IsBroken : Option (List ℕ) → Option (List ℕ) → Option ℕ → Option ℕ → List ℕ → Type 0
-IsBroken written written_now taken taken_now bytes =
-    (sent : List ℕ) × Appends written written_now taken taken_now sent × IsProperPrefix sent bytes
+abbrev pub IsBroken : SinkView → SinkView → List ℕ → Type 0
+IsBroken sink sink_now bytes =
+    (sent : List ℕ) × Appends sink sink_now sent × IsProperPrefix sent bytes
 
 -- the bytes were put: after a failed write a beginning and not all is appended, and for want of memory a beginning was put
-abbrev pub ArePut : Option (List ℕ) → Option (List ℕ) → Option ℕ → Option ℕ → List ℕ → List ℕ → Going → Type 0
-ArePut written written_now taken taken_now bytes waiting (Ok _) = IsPut written written_now taken taken_now bytes waiting
-ArePut written written_now taken taken_now bytes waiting (Err Ended) = IsPut written written_now taken taken_now bytes waiting
-ArePut written written_now taken taken_now bytes waiting (Err (BadLine number)) = IsPut written written_now taken taken_now bytes waiting
-ArePut written written_now taken taken_now bytes waiting (Err (LongLine number)) = IsPut written written_now taken taken_now bytes waiting
-ArePut written written_now taken taken_now bytes waiting (Err TooManyLines) = IsPut written written_now taken taken_now bytes waiting
-ArePut written written_now taken taken_now bytes waiting (Err (NotBuilt number)) = IsPut written written_now taken taken_now bytes waiting
-ArePut written written_now taken taken_now bytes waiting (Err ReadFault) = IsPut written written_now taken taken_now bytes waiting
-ArePut written written_now taken taken_now bytes waiting (Err WriteFault) = IsBroken written written_now taken taken_now bytes
-ArePut written written_now taken taken_now bytes waiting (Err NoMemory) = (sent : List ℕ) × Appends written written_now taken taken_now sent × IsPrefix (sent ++ waiting) bytes
+abbrev pub ArePut : SinkView → SinkView → List ℕ → List ℕ → Going → Type 0
+ArePut sink sink_now bytes waiting (Ok _) = IsPut sink sink_now bytes waiting
+ArePut sink sink_now bytes waiting (Err Ended) = IsPut sink sink_now bytes waiting
+ArePut sink sink_now bytes waiting (Err (BadLine number)) = IsPut sink sink_now bytes waiting
+ArePut sink sink_now bytes waiting (Err (LongLine number)) = IsPut sink sink_now bytes waiting
+ArePut sink sink_now bytes waiting (Err TooManyLines) = IsPut sink sink_now bytes waiting
+ArePut sink sink_now bytes waiting (Err (NotBuilt number)) = IsPut sink sink_now bytes waiting
+ArePut sink sink_now bytes waiting (Err ReadFault) = IsPut sink sink_now bytes waiting
+ArePut sink sink_now bytes waiting (Err WriteFault) = IsBroken sink sink_now bytes
+ArePut sink sink_now bytes waiting (Err NoMemory) = (sent : List ℕ) × Appends sink sink_now sent × IsPrefix (sent ++ waiting) bytes
 
 -- the first of the bytes ahead, behind so many lines, are a line that a line feed ends and that does not end the script; its call was made, and the bytes behind it are ahead now
 pub record GoesOn (before : ℕ) (bytes : List ℕ) (ahead_now : Option (List ℕ)) (calls : List (ℕ × Call)) : Type 0 where
@@ -89,52 +90,51 @@ MakesCall number told calls (Err WriteFault) = (form_end number told ≡ None) �
 MakesCall number told calls (Err NoMemory) = ((form_end number told ≡ None) × (calls ≡ calls_of told)) ⊎ (calls ≡ [])
 
 -- the call of the numbered line was made and served, and the line of its result put behind the bytes that wait
-pub record IsLineServed (me : ℕ) (opening : State) (seen seen_now : List Entry) (number : ℕ) (told : ScriptLine) (written written_now : Option (List ℕ)) (taken taken_now : Option ℕ) (waiting waiting_now : List ℕ) (going : Going) : Type 0 where
+pub record IsLineServed (me : ℕ) (opening : State) (seen seen_now : List Entry) (number : ℕ) (told : ScriptLine) (sink sink_now : SinkView) (waiting waiting_now : List ℕ) (going : Going) : Type 0 where
   pub calls : List (ℕ × Call)
   pub results : List (Result Reply Fault)
   pub served : Served me opening seen calls results seen_now
   pub makes : MakesCall number told calls going
-  pub puts : ArePut written written_now taken taken_now (waiting ++ flat_map answer_line results) waiting_now going
+  pub puts : ArePut sink sink_now (waiting ++ flat_map answer_line results) waiting_now going
 
 -- a turn behind so many lines
-pub record IsTurn (me : ℕ) (opening : State) (seen seen_now : List Entry) (before : ℕ) (ahead ahead_now : Option (List ℕ)) (held_now : List ℕ) (written written_now : Option (List ℕ)) (taken taken_now : Option ℕ) (waiting waiting_now : List ℕ) (going : Going) : Type 0 where
+pub record IsTurn (me : ℕ) (opening : State) (seen seen_now : List Entry) (before : ℕ) (ahead ahead_now : Option (List ℕ)) (held_now : List ℕ) (sink sink_now : SinkView) (waiting waiting_now : List ℕ) (going : Going) : Type 0 where
   pub calls : List (ℕ × Call)
   pub results : List (Result Reply Fault)
   pub served : Served me opening seen calls results seen_now
   pub takes : Takes before ahead ahead_now held_now calls going
-  pub puts : ArePut written written_now taken taken_now (waiting ++ flat_map answer_line results) waiting_now going
+  pub puts : ArePut sink sink_now (waiting ++ flat_map answer_line results) waiting_now going
 
 -- all turns of a script, whose bytes are ahead, up to its end; what waits is not written yet
-pub record AreTurns (me : ℕ) (opening : State) (seen seen_now : List Entry) (ahead left_now : Option (List ℕ)) (written written_now : Option (List ℕ)) (taken taken_now : Option ℕ) (waiting_now : List ℕ) (ending : ScriptEnd) : Type 0 where
+pub record AreTurns (me : ℕ) (opening : State) (seen seen_now : List Entry) (ahead left_now : Option (List ℕ)) (sink sink_now : SinkView) (waiting_now : List ℕ) (ending : ScriptEnd) : Type 0 where
   pub calls : List (ℕ × Call)
   pub results : List (Result Reply Fault)
   pub served : Served me opening seen calls results seen_now
   pub made : IfSome ahead (λ bytes. AreMade (script_of bytes) calls ending)
   pub cut_off : ending ≡ ReadFault → IfSome ahead (λ bytes. IsCutOff bytes left_now calls)
-  pub puts : ArePut written written_now taken taken_now (flat_map answer_line results) waiting_now (Err ending)
+  pub puts : ArePut sink sink_now (flat_map answer_line results) waiting_now (Err ending)
 
 -- nothing was written, since a write had failed
-pub record IsLeft (written written_now : Option (List ℕ)) (taken taken_now : Option ℕ) (ending result : ScriptEnd) : Type 0 where
+pub record IsLeft (sink sink_now : SinkView) (ending result : ScriptEnd) : Type 0 where
   pub failed : ending ≡ WriteFault
   pub is : result ≡ WriteFault
-  pub nothing_written : written_now ≡ written
-  pub nothing_taken : taken_now ≡ taken
+  pub nothing : AppendsNothing sink sink_now
 
 -- all that waited was written
-pub record IsFlushed (written written_now : Option (List ℕ)) (taken taken_now : Option ℕ) (waiting : List ℕ) (ending result : ScriptEnd) : Type 0 where
+pub record IsFlushed (sink sink_now : SinkView) (waiting : List ℕ) (ending result : ScriptEnd) : Type 0 where
   pub not_failed : ending ≢ WriteFault
   pub is : result ≡ ending
-  pub appends : Appends written written_now taken taken_now waiting
+  pub appends : Appends sink sink_now waiting
 
 -- a write failed: a beginning of what waited was written, and not all
-pub record IsCut (written written_now : Option (List ℕ)) (taken taken_now : Option ℕ) (waiting : List ℕ) (ending result : ScriptEnd) : Type 0 where
+pub record IsCut (sink sink_now : SinkView) (waiting : List ℕ) (ending result : ScriptEnd) : Type 0 where
   pub not_failed : ending ≢ WriteFault
   pub is : result ≡ WriteFault
-  pub broken : IsBroken written written_now taken taken_now waiting
+  pub broken : IsBroken sink sink_now waiting
 
 -- what waited at the end of a script was written
-abbrev pub Finishes : Option (List ℕ) → Option (List ℕ) → Option ℕ → Option ℕ → List ℕ → ScriptEnd → ScriptEnd → Type 0
-Finishes written written_now taken taken_now waiting ending result =
-    (IsLeft written written_now taken taken_now ending result
-    ⊎ IsFlushed written written_now taken taken_now waiting ending result)
-    ⊎ IsCut written written_now taken taken_now waiting ending result
+abbrev pub Finishes : SinkView → SinkView → List ℕ → ScriptEnd → ScriptEnd → Type 0
+Finishes sink sink_now waiting ending result =
+    (IsLeft sink sink_now ending result
+    ⊎ IsFlushed sink sink_now waiting ending result)
+    ⊎ IsCut sink sink_now waiting ending result

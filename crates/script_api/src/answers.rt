@@ -48,10 +48,10 @@ impl Answers {
         output: &mut T,
         answer: &Result<Reply, Fault>,
     ) -> Result<(), ScriptEnd>
-        ensures puts { ArePut (T.written output.old) (T.written output.new) (T.taken output.old) (T.taken output.new) (self.old ++ answer_line answer.now) self.new result }
+        ensures puts { ArePut (T.sink output.old) (T.sink output.new) (self.old ++ answer_line answer.now) self.new result }
         ensures failed { IfErr result (λ end. (end ≡ ScriptEnd.WriteFault) ⊎ (end ≡ ScriptEnd.NoMemory)) }
-        ensures cause { IfErr result (EndCause 0 0 (T.write_faults output.old) (T.write_faults output.new)) }
-        ensures faults { T.write_faults output.old ≤ T.write_faults output.new }
+        ensures cause { IfErr result (EndCause 0 0 (T.sink output.old).faults (T.sink output.new).faults) }
+        ensures faults { (T.sink output.old).faults ≤ (T.sink output.new).faults }
     {
         self.text.clear();
         let Ok(()) = write_answer(&mut self.text, answer) else {
@@ -65,19 +65,19 @@ impl Answers {
 
     /// Writes all lines that wait. After a fault a beginning of them is written, and not all.
     pub fn flush<T: Sink>(&mut self, output: &mut T) -> Result<(), WriteFault>
-        ensures flushed { OnOk result (Appends (T.written output.old) (T.written output.new) (T.taken output.old) (T.taken output.new) self.old × (self.new ≡ [])) }
-        ensures fault { OnErr result ((sent : List ℕ) × Appends (T.written output.old) (T.written output.new) (T.taken output.old) (T.taken output.new) sent × IsProperPrefix sent self.old) }
-        ensures cause { OnErr result (Rose (T.write_faults output.old) (T.write_faults output.new)) }
-        ensures faults { T.write_faults output.old ≤ T.write_faults output.new }
+        ensures flushed { OnOk result (Appends (T.sink output.old) (T.sink output.new) self.old × (self.new ≡ [])) }
+        ensures fault { OnErr result ((sent : List ℕ) × Appends (T.sink output.old) (T.sink output.new) sent × IsProperPrefix sent self.old) }
+        ensures cause { OnErr result (Rose (T.sink output.old).faults (T.sink output.new).faults) }
+        ensures faults { (T.sink output.old).faults ≤ (T.sink output.new).faults }
     {
         self.out.flush(output)
     }
 
     /// Writes all lines that wait, unless a write failed, and answers the end, which is `WriteFault` where a write failed.
     pub fn finish<T: Sink>(&mut self, output: &mut T, end: ScriptEnd) -> ScriptEnd
-        ensures finishes { Finishes (T.written output.old) (T.written output.new) (T.taken output.old) (T.taken output.new) self.old end result }
-        ensures cause { (result ≡ end) ⊎ ((result ≡ ScriptEnd.WriteFault) × Rose (T.write_faults output.old) (T.write_faults output.new)) }
-        ensures faults { T.write_faults output.old ≤ T.write_faults output.new }
+        ensures finishes { Finishes (T.sink output.old) (T.sink output.new) self.old end result }
+        ensures cause { (result ≡ end) ⊎ ((result ≡ ScriptEnd.WriteFault) × Rose (T.sink output.old).faults (T.sink output.new).faults) }
+        ensures faults { (T.sink output.old).faults ≤ (T.sink output.new).faults }
     {
         if let ScriptEnd::WriteFault = end {
             return end;

@@ -34,11 +34,11 @@ pub fn script<V: Service, S: Source, T: Sink>(
     ensures opening { V.opening service.new ≡ V.opening service.old }
     ensures me { V.me service.new ≡ V.me service.old }
     ensures sure { V.sure service.new ≡ V.sure service.old }
-    ensures run { IsRun (V.me service.old) (V.opening service.old) (V.seen service.old) (V.seen service.new) (S.left input.old) (S.left input.new) (T.written output.old) (T.written output.new) (T.taken output.old) (T.taken output.new) result }
-    ensures all_read { result ≡ ScriptEnd.Ended → IfSome (S.left input.new) (λ bytes. bytes ≡ []) }
-    ensures cause { EndCause (S.read_faults input.old) (S.read_faults input.new) (T.write_faults output.old) (T.write_faults output.new) result }
-    ensures read_faults { S.read_faults input.old ≤ S.read_faults input.new }
-    ensures write_faults { T.write_faults output.old ≤ T.write_faults output.new }
+    ensures run { IsRun (V.me service.old) (V.opening service.old) (V.seen service.old) (V.seen service.new) (S.source input.old) (S.source input.new) (T.sink output.old) (T.sink output.new) result }
+    ensures all_read { result ≡ ScriptEnd.Ended → IfSome (S.source input.new).left (λ bytes. bytes ≡ []) }
+    ensures cause { EndCause (S.source input.old).faults (S.source input.new).faults (T.sink output.old).faults (T.sink output.new).faults result }
+    ensures read_faults { (S.source input.old).faults ≤ (S.source input.new).faults }
+    ensures write_faults { (T.sink output.old).faults ≤ (T.sink output.new).faults }
 {
     service.history_is_legal();
     let Ok(mut serving) = Serving::new(alloc) else {

@@ -57,11 +57,11 @@ impl Serving {
         ensures opening { V.opening service.new ≡ V.opening service.old }
         ensures me { V.me service.new ≡ V.me service.old }
         ensures sure { V.sure service.new ≡ V.sure service.old }
-        ensures turns { AreTurns (V.me service.old) (V.opening service.old) (V.seen service.old) (V.seen service.new) (ahead self.old.reader (S.left input.old)) (S.left input.new) (T.written output.old) (T.written output.new) (T.taken output.old) (T.taken output.new) self.new.answers result }
-        ensures all_read { result ≡ ScriptEnd.Ended → IfSome (S.left input.new) (λ bytes. bytes ≡ []) }
-        ensures cause { EndCause (S.read_faults input.old) (S.read_faults input.new) (T.write_faults output.old) (T.write_faults output.new) result }
-        ensures read_faults { S.read_faults input.old ≤ S.read_faults input.new }
-        ensures write_faults { T.write_faults output.old ≤ T.write_faults output.new }
+        ensures turns { AreTurns (V.me service.old) (V.opening service.old) (V.seen service.old) (V.seen service.new) (ahead self.old.reader (S.source input.old).left) (S.source input.new).left (T.sink output.old) (T.sink output.new) self.new.answers result }
+        ensures all_read { result ≡ ScriptEnd.Ended → IfSome (S.source input.new).left (λ bytes. bytes ≡ []) }
+        ensures cause { EndCause (S.source input.old).faults (S.source input.new).faults (T.sink output.old).faults (T.sink output.new).faults result }
+        ensures read_faults { (S.source input.old).faults ≤ (S.source input.new).faults }
+        ensures write_faults { (T.sink output.old).faults ≤ (T.sink output.new).faults }
     {
         for number in 1..LINES_MAX + 1 {
             if let Err(end) = self.serve_line(number, service, input, output) {
@@ -87,11 +87,11 @@ impl Serving {
         ensures opening { V.opening service.new ≡ V.opening service.old }
         ensures me { V.me service.new ≡ V.me service.old }
         ensures sure { V.sure service.new ≡ V.sure service.old }
-        ensures turn { IsTurn (V.me service.old) (V.opening service.old) (V.seen service.old) (V.seen service.new) (number - 1) (ahead self.old.reader (S.left input.old)) (ahead self.new.reader (S.left input.new)) self.new.reader.held (T.written output.old) (T.written output.new) (T.taken output.old) (T.taken output.new) self.old.answers self.new.answers result }
-        ensures all_read { result ≡ Err ScriptEnd.Ended → IfSome (S.left input.new) (λ bytes. bytes ≡ []) }
-        ensures cause { IfErr result (EndCause (S.read_faults input.old) (S.read_faults input.new) (T.write_faults output.old) (T.write_faults output.new)) }
-        ensures read_faults { S.read_faults input.old ≤ S.read_faults input.new }
-        ensures write_faults { T.write_faults output.old ≤ T.write_faults output.new }
+        ensures turn { IsTurn (V.me service.old) (V.opening service.old) (V.seen service.old) (V.seen service.new) (number - 1) (ahead self.old.reader (S.source input.old).left) (ahead self.new.reader (S.source input.new).left) self.new.reader.held (T.sink output.old) (T.sink output.new) self.old.answers self.new.answers result }
+        ensures all_read { result ≡ Err ScriptEnd.Ended → IfSome (S.source input.new).left (λ bytes. bytes ≡ []) }
+        ensures cause { IfErr result (EndCause (S.source input.old).faults (S.source input.new).faults (T.sink output.old).faults (T.sink output.new).faults) }
+        ensures read_faults { (S.source input.old).faults ≤ (S.source input.new).faults }
+        ensures write_faults { (T.sink output.old).faults ≤ (T.sink output.new).faults }
     {
         service.history_is_legal();
         let Ok(()) = self.flush_unless_held(output) else {
@@ -105,12 +105,12 @@ impl Serving {
     /// Sees that the end stands behind the last line that may be.
     fn see_end<S: Source, T: Sink>(&mut self, input: &mut S, output: &mut T) -> ScriptEnd
         requires max { self.old.reader.max ≡ LINE_MAX }
-        ensures takes { Takes LINES_MAX (ahead self.old.reader (S.left input.old)) (ahead self.new.reader (S.left input.new)) self.new.reader.held [] (Err result) }
-        ensures puts { ArePut (T.written output.old) (T.written output.new) (T.taken output.old) (T.taken output.new) self.old.answers self.new.answers (Err result) }
-        ensures all_read { result ≡ ScriptEnd.Ended → IfSome (S.left input.new) (λ bytes. bytes ≡ []) }
-        ensures cause { EndCause (S.read_faults input.old) (S.read_faults input.new) (T.write_faults output.old) (T.write_faults output.new) result }
-        ensures read_faults { S.read_faults input.old ≤ S.read_faults input.new }
-        ensures write_faults { T.write_faults output.old ≤ T.write_faults output.new }
+        ensures takes { Takes LINES_MAX (ahead self.old.reader (S.source input.old).left) (ahead self.new.reader (S.source input.new).left) self.new.reader.held [] (Err result) }
+        ensures puts { ArePut (T.sink output.old) (T.sink output.new) self.old.answers self.new.answers (Err result) }
+        ensures all_read { result ≡ ScriptEnd.Ended → IfSome (S.source input.new).left (λ bytes. bytes ≡ []) }
+        ensures cause { EndCause (S.source input.old).faults (S.source input.new).faults (T.sink output.old).faults (T.sink output.new).faults result }
+        ensures read_faults { (S.source input.old).faults ≤ (S.source input.new).faults }
+        ensures write_faults { (T.sink output.old).faults ≤ (T.sink output.new).faults }
     {
         let Ok(()) = self.flush_unless_held(output) else {
             return ScriptEnd::WriteFault;
@@ -125,10 +125,10 @@ impl Serving {
     /// Writes the lines that wait before a read, which comes where no whole line is held.
     fn flush_unless_held<T: Sink>(&mut self, output: &mut T) -> Result<(), WriteFault>
         ensures reader { self.new.reader ≡ self.old.reader }
-        ensures put { OnOk result (IsPut (T.written output.old) (T.written output.new) (T.taken output.old) (T.taken output.new) self.old.answers self.new.answers) }
-        ensures fault { OnErr result (IsBroken (T.written output.old) (T.written output.new) (T.taken output.old) (T.taken output.new) self.old.answers) }
-        ensures cause { OnErr result (Rose (T.write_faults output.old) (T.write_faults output.new)) }
-        ensures write_faults { T.write_faults output.old ≤ T.write_faults output.new }
+        ensures put { OnOk result (IsPut (T.sink output.old) (T.sink output.new) self.old.answers self.new.answers) }
+        ensures fault { OnErr result (IsBroken (T.sink output.old) (T.sink output.new) self.old.answers) }
+        ensures cause { OnErr result (Rose (T.sink output.old).faults (T.sink output.new).faults) }
+        ensures write_faults { (T.sink output.old).faults ≤ (T.sink output.new).faults }
     {
         if self.reader.has_line() {
             return Ok(());
@@ -142,10 +142,10 @@ impl Serving {
         requires max { self.old.reader.max ≡ LINE_MAX }
         ensures max { self.new.reader.max ≡ LINE_MAX }
         ensures answers { self.new.answers ≡ self.old.answers }
-        ensures reads { ReadsLine (number - 1) (ahead self.old.reader (S.left input.old)) (ahead self.new.reader (S.left input.new)) self.new.reader result }
-        ensures all_read { result ≡ Err ScriptEnd.Ended → IfSome (S.left input.new) (λ bytes. bytes ≡ []) }
-        ensures cause { IfErr result (EndCause (S.read_faults input.old) (S.read_faults input.new) 0 0) }
-        ensures read_faults { S.read_faults input.old ≤ S.read_faults input.new }
+        ensures reads { ReadsLine (number - 1) (ahead self.old.reader (S.source input.old).left) (ahead self.new.reader (S.source input.new).left) self.new.reader result }
+        ensures all_read { result ≡ Err ScriptEnd.Ended → IfSome (S.source input.new).left (λ bytes. bytes ≡ []) }
+        ensures cause { IfErr result (EndCause (S.source input.old).faults (S.source input.new).faults 0 0) }
+        ensures read_faults { (S.source input.old).faults ≤ (S.source input.new).faults }
     {
         match self.reader.next(input) {
             LineGot::Line => Ok(()),
@@ -168,9 +168,9 @@ impl Serving {
         ensures opening { V.opening service.new ≡ V.opening service.old }
         ensures me { V.me service.new ≡ V.me service.old }
         ensures sure { V.sure service.new ≡ V.sure service.old }
-        ensures served { IsLineServed (V.me service.old) (V.opening service.old) (V.seen service.old) (V.seen service.new) number (script_line self.old.reader.line) (T.written output.old) (T.written output.new) (T.taken output.old) (T.taken output.new) self.old.answers self.new.answers result }
-        ensures cause { IfErr result (EndCause 0 0 (T.write_faults output.old) (T.write_faults output.new)) }
-        ensures write_faults { T.write_faults output.old ≤ T.write_faults output.new }
+        ensures served { IsLineServed (V.me service.old) (V.opening service.old) (V.seen service.old) (V.seen service.new) number (script_line self.old.reader.line) (T.sink output.old) (T.sink output.new) self.old.answers self.new.answers result }
+        ensures cause { IfErr result (EndCause 0 0 (T.sink output.old).faults (T.sink output.new).faults) }
+        ensures write_faults { (T.sink output.old).faults ≤ (T.sink output.new).faults }
     {
         match read_line(self.alloc, self.reader.line()) {
             Ok(ScriptLine::Skipped) => Ok(()),
@@ -207,10 +207,10 @@ fn make_call<V: Service, T: Sink>(
     ensures opening { V.opening service.new ≡ V.opening service.old }
     ensures me { V.me service.new ≡ V.me service.old }
     ensures sure { V.sure service.new ≡ V.sure service.old }
-    ensures serves { (answer : Result Reply Fault) × Serves (V.me service.old) (V.opening service.old) (V.seen service.old) moment call answer (V.seen service.new) × ArePut (T.written output.old) (T.written output.new) (T.taken output.old) (T.taken output.new) (answers.old ++ answer_line answer) answers.new result }
+    ensures serves { (answer : Result Reply Fault) × Serves (V.me service.old) (V.opening service.old) (V.seen service.old) moment call answer (V.seen service.new) × ArePut (T.sink output.old) (T.sink output.new) (answers.old ++ answer_line answer) answers.new result }
     ensures failed { IfErr result (λ end. (end ≡ ScriptEnd.WriteFault) ⊎ (end ≡ ScriptEnd.NoMemory)) }
-    ensures cause { IfErr result (EndCause 0 0 (T.write_faults output.old) (T.write_faults output.new)) }
-    ensures write_faults { T.write_faults output.old ≤ T.write_faults output.new }
+    ensures cause { IfErr result (EndCause 0 0 (T.sink output.old).faults (T.sink output.new).faults) }
+    ensures write_faults { (T.sink output.old).faults ≤ (T.sink output.new).faults }
 {
     let answer = service.call(moment, call);
     answers.put(output, &answer)

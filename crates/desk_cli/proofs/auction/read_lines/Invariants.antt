@@ -6,6 +6,6 @@ use Rattle.desk_cli.proofs.auction.read_lines.Given as goal
 
 abbrev pub invariant-loop-number : goal.invariant-loop-number
 invariant-loop-number g l =
-    IsAt (option_map (told_from l.fn.reading 1) (ahead l.fn.reader (g.S.Source.left l.fn.input)))
-    (option_map (told_from l.reading l.number) (ahead l.reader (g.S.Source.left l.input)))
-    l.reader.max (g.S.Source.read_faults l.fn.input) (g.S.Source.read_faults l.input)
+    IsAt (option_map (told_from l.fn.reading 1) (ahead l.fn.reader (g.S.Source.source l.fn.input).left))
+    (option_map (told_from l.reading l.number) (ahead l.reader (g.S.Source.source l.input).left))
+    l.reader.max (g.S.Source.source l.fn.input).faults (g.S.Source.source l.input).faults

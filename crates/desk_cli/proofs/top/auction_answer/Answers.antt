@@ -6,17 +6,17 @@ use Rattle.desk_cli.proofs.top.auction_answer.Goals as goal
 
 pub returns-in-Ok-clause-outcome : goal.returns-in-Ok-clause-outcome
 returns-in-Ok-clause-outcome g c =
-    judged-answer (g.S.Source.left c.args.input.now) (g.S.Source.read_faults c.args.input.now) (g.S.Source.read_faults c.read_auction.new.input)
+    judged-answer (g.S.Source.source c.args.input.now) (g.S.Source.source c.read_auction.new.input)
     (Ok (auction_value c.in-Ok.auction)) c.page_answer.result c.in-Ok.ensures.told c.page_answer.ensures.text c.page_answer.ensures.status
 
 pub returns-in-Err-Fault-clause-outcome : goal.returns-in-Err-Fault-clause-outcome
 returns-in-Err-Fault-clause-outcome g c =
-    judged-answer (g.S.Source.left c.args.input.now) (g.S.Source.read_faults c.args.input.now) (g.S.Source.read_faults c.read_auction.new.input)
+    judged-answer (g.S.Source.source c.args.input.now) (g.S.Source.source c.read_auction.new.input)
     (Err c.in-Err-Fault.fault) c.fault_answer.result
-    (fault-tells (g.S.Source.left c.args.input.now) c.in-Err-Fault.field-0 c.in-Err-Fault.fault c.in-Err-Fault.field-0-is c.in-Err-Fault.ensures.told)
+    (fault-tells (g.S.Source.source c.args.input.now).left c.in-Err-Fault.field-0 c.in-Err-Fault.fault c.in-Err-Fault.field-0-is c.in-Err-Fault.ensures.told)
     c.fault_answer.ensures.text c.fault_answer.ensures.status
 
 pub returns-in-Err-Fault-clause-all_read : goal.returns-in-Err-Fault-clause-all_read
 returns-in-Err-Fault-clause-all_read g c =
-    other-status (IfSome (g.S.Source.left c.read_auction.new.input) (λ bytes. bytes ≡ [])) (fault_status c.in-Err-Fault.fault) c.fault_answer.result
+    other-status (IfSome (g.S.Source.source c.read_auction.new.input).left (λ bytes. bytes ≡ [])) (fault_status c.in-Err-Fault.fault) c.fault_answer.result
     (fault-status_is_not_0 c.in-Err-Fault.fault) c.fault_answer.ensures.status

@@ -4,5 +4,5 @@ use Rattle.desk_cli.proofs.top.serve_auction.Goals as goal
 
 pub returns-in-Err-clause-ended : goal.returns-in-Err-clause-ended
 returns-in-Err-clause-ended g c =
-    let judged = some_judged (g.S.Source.left c.args.input.now) in
-    (judged.0, inr judged.1, inr (record { answered = refl; nothing_written = refl; nothing_taken = refl }))
+    let judged = some_judged (g.S.Source.source c.args.input.now) in
+    (judged.0, inr judged.1, inr (record { answered = refl; nothing = record { nothing_written = refl; nothing_taken = refl } }))

@@ -12,10 +12,10 @@ use Rattle.desk_io.proofs.line_reader.LineReader.next.Goals as goal
 pub returns-then-size-max-clause-lines : goal.returns-then-size-max-clause-lines
 returns-then-size-max-clause-lines g c =
     let now = c.size_of_first-size.new.self in
-    let left = g.S.Source.left c.loop-size.source in
+    let left = (g.S.Source.source c.loop-size.source).left in
     let same = c.size_of_first-size.ensures.same in
     let max_is : now.max ≡ c.args.self.now.max = ap (λ (r : ReaderValue). r.max) same ∙ c.loop-size.invariant.max in
-    let ahead_is : ahead now left ≡ ahead c.args.self.now (g.S.Source.left c.args.source.now) = ap (λ (r : ReaderValue). ahead r left) same ∙ c.loop-size.invariant.ahead in
+    let ahead_is : ahead now left ≡ ahead c.args.self.now (g.S.Source.source c.args.source.now).left = ap (λ (r : ReaderValue). ahead r left) same ∙ c.loop-size.invariant.ahead in
     let size_is : c.size_of_first-size.result ≡ position_or_len is_line_feed now.held = c.size_of_first-size.ensures.size ∙ sym (ap (λ (r : ReaderValue). position_or_len is_line_feed r.held) same) in
     from_start _ _ _ _ (behind now.held left) TooLong now.line max_is ahead_is (gives_too_long now.max now.held left now.line (omega arith))
 
@@ -24,10 +24,10 @@ returns-then-size-held_len-clause-lines g c =
     let now = c.size_of_first-size.new.self in
     let after = c.take_line.new.self in
     let size = c.size_of_first-size.result in
-    let left = g.S.Source.left c.loop-size.source in
+    let left = (g.S.Source.source c.loop-size.source).left in
     let same = c.size_of_first-size.ensures.same in
     let max_is : now.max ≡ c.args.self.now.max = ap (λ (r : ReaderValue). r.max) same ∙ c.loop-size.invariant.max in
-    let ahead_is : ahead now left ≡ ahead c.args.self.now (g.S.Source.left c.args.source.now) = ap (λ (r : ReaderValue). ahead r left) same ∙ c.loop-size.invariant.ahead in
+    let ahead_is : ahead now left ≡ ahead c.args.self.now (g.S.Source.source c.args.source.now).left = ap (λ (r : ReaderValue). ahead r left) same ∙ c.loop-size.invariant.ahead in
     let size_is : size ≡ position_or_len is_line_feed now.held = c.size_of_first-size.ensures.size ∙ sym (ap (λ (r : ReaderValue). position_or_len is_line_feed r.held) same) in
     from_start _ _ _ _ (behind after.held left) GotLine after.line max_is ahead_is (gives_ended now.max now.held left after.held after.line size size_is (omega arith) (omega arith) c.take_line.ensures.line c.take_line.ensures.held)
 
@@ -42,11 +42,11 @@ pub returns-in-End-clause-lines : goal.returns-in-End-clause-lines
 returns-in-End-clause-lines g c =
     let now = c.size_of_first-size.new.self in
     let after = c.take_rest.new.self in
-    let left = g.S.Source.left c.loop-size.source in
-    let left_now = g.S.Source.left c.fill.new.source in
+    let left = (g.S.Source.source c.loop-size.source).left in
+    let left_now = (g.S.Source.source c.fill.new.source).left in
     let same = c.size_of_first-size.ensures.same in
     let max_is : now.max ≡ c.args.self.now.max = ap (λ (r : ReaderValue). r.max) same ∙ c.loop-size.invariant.max in
-    let ahead_is : ahead now left ≡ ahead c.args.self.now (g.S.Source.left c.args.source.now) = ap (λ (r : ReaderValue). ahead r left) same ∙ c.loop-size.invariant.ahead in
+    let ahead_is : ahead now left ≡ ahead c.args.self.now (g.S.Source.source c.args.source.now).left = ap (λ (r : ReaderValue). ahead r left) same ∙ c.loop-size.invariant.ahead in
     let size_is : c.size_of_first-size.result ≡ position_or_len is_line_feed now.held = c.size_of_first-size.ensures.size ∙ sym (ap (λ (r : ReaderValue). position_or_len is_line_feed r.held) same) in
     let fills = c.in-End.ensures.bytes in
     let unread : c.fill.new.self.held ≡ now.held = fills.grew ∙ append-nil now.held in
@@ -58,9 +58,9 @@ pub returns-then-size-held_len-clause-ended : goal.returns-then-size-held_len-cl
 returns-then-size-held_len-clause-ended g c =
     let now = c.size_of_first-size.new.self in
     let after = c.take_line.new.self in
-    let left = g.S.Source.left c.loop-size.source in
+    let left = (g.S.Source.source c.loop-size.source).left in
     let same = c.size_of_first-size.ensures.same in
-    let ahead_is : ahead now left ≡ ahead c.args.self.now (g.S.Source.left c.args.source.now) = ap (λ (r : ReaderValue). ahead r left) same ∙ c.loop-size.invariant.ahead in
+    let ahead_is : ahead now left ≡ ahead c.args.self.now (g.S.Source.source c.args.source.now).left = ap (λ (r : ReaderValue). ahead r left) same ∙ c.loop-size.invariant.ahead in
     let size_is : c.size_of_first-size.result ≡ position_or_len is_line_feed now.held = c.size_of_first-size.ensures.size ∙ sym (ap (λ (r : ReaderValue). position_or_len is_line_feed r.held) same) in
     subst (λ (before : Option (List ℕ)). IfSome before (λ bytes. after.is_ended ≡ has_line_feed bytes)) ahead_is (ended_by_feed now.held left after.is_ended (omega arith) c.take_line.ensures.ended)
 
@@ -68,9 +68,9 @@ pub returns-in-End-clause-ended : goal.returns-in-End-clause-ended
 returns-in-End-clause-ended g c =
     let now = c.size_of_first-size.new.self in
     let after = c.take_rest.new.self in
-    let left = g.S.Source.left c.loop-size.source in
+    let left = (g.S.Source.source c.loop-size.source).left in
     let same = c.size_of_first-size.ensures.same in
-    let ahead_is : ahead now left ≡ ahead c.args.self.now (g.S.Source.left c.args.source.now) = ap (λ (r : ReaderValue). ahead r left) same ∙ c.loop-size.invariant.ahead in
+    let ahead_is : ahead now left ≡ ahead c.args.self.now (g.S.Source.source c.args.source.now).left = ap (λ (r : ReaderValue). ahead r left) same ∙ c.loop-size.invariant.ahead in
     let size_is : c.size_of_first-size.result ≡ position_or_len is_line_feed now.held = c.size_of_first-size.ensures.size ∙ sym (ap (λ (r : ReaderValue). position_or_len is_line_feed r.held) same) in
     let fills = c.in-End.ensures.bytes in
     let unread : c.fill.new.self.held ≡ now.held = fills.grew ∙ append-nil now.held in

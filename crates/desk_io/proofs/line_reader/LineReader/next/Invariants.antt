@@ -6,8 +6,8 @@ abbrev pub invariant-loop-size : goal.invariant-loop-size
 invariant-loop-size g l = record {
   max : l.self.max ≡ l.fn.self.max;
   line : l.self.line ≡ [];
-  ahead : ahead l.self (g.S.Source.left l.source) ≡ ahead l.fn.self (g.S.Source.left l.fn.source);
-  faults : g.S.Source.read_faults l.fn.source ≤ g.S.Source.read_faults l.source;
+  ahead : ahead l.self (g.S.Source.source l.source).left ≡ ahead l.fn.self (g.S.Source.source l.fn.source).left;
+  faults : (g.S.Source.source l.fn.source).faults ≤ (g.S.Source.source l.source).faults;
 }
 
 abbrev pub decreases-loop-size : goal.decreases-loop-size

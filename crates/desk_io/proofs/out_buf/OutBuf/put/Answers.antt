@@ -10,7 +10,7 @@ on_any_err (Err error) p = p
 
 pub returns-in_err-flush-clause-fault : goal.returns-in_err-flush-clause-fault
 returns-in_err-flush-clause-fault g c =
-    on_any_err c.from_residual.result (BrokenOff_longer _ _ _ _ c.args.self.now c.args.bytes.now c.in_err-flush.ensures.fault)
+    on_any_err c.from_residual.result (BrokenOff_longer _ _ c.args.self.now c.args.bytes.now c.in_err-flush.ensures.fault)
 
 pub returns-clause-put : goal.returns-clause-put
 returns-clause-put g c =
@@ -18,10 +18,10 @@ returns-clause-put g c =
     let whole = c.args.self.now ++ c.args.bytes.now in
     on_ok_weaker c.write_all.result (λ appends. (
       whole,
-      Appends_more _ _ _ _ _ _ c.args.self.now c.args.bytes.now flushed.0 appends,
+      Appends_more _ _ _ c.args.self.now c.args.bytes.now flushed.0 appends,
       ap (λ (waiting : List ℕ). whole ++ waiting) flushed.1 ∙ append-nil whole,
     )) c.write_all.ensures.written
 
 pub returns-clause-fault : goal.returns-clause-fault
 returns-clause-fault g c =
-    on_err_weaker c.write_all.result (BrokenOff_behind _ _ _ _ _ _ c.args.self.now c.args.bytes.now c.in_ok-flush.ensures.flushed.0) c.write_all.ensures.fault
+    on_err_weaker c.write_all.result (BrokenOff_behind _ _ _ c.args.self.now c.args.bytes.now c.in_ok-flush.ensures.flushed.0) c.write_all.ensures.fault

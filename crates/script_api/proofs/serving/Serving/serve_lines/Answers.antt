@@ -12,7 +12,7 @@ loop-number-init g c = record {
   opening = refl;
   me = refl;
   sure = refl;
-  turns = so_far-none _ _ _ (ahead c.args.self.now.reader (g.S.Source.left c.args.input.now)) (g.T.Sink.written c.args.output.now) (g.T.Sink.taken c.args.output.now) c.args.self.now.answers
+  turns = so_far-none _ _ _ (ahead c.args.self.now.reader (g.S.Source.source c.args.input.now).left) (g.T.Sink.sink c.args.output.now) c.args.self.now.answers
       c.requires.legal (g.met.T.Sink.taken_fits c.args.output.now) c.requires.waiting;
   read_faults = omega arith;
   write_faults = omega arith;
@@ -29,10 +29,10 @@ loop-number-preserved g c =
       me = c.serve_line.ensures.me ∙ before.me;
       sure = c.serve_line.ensures.sure ∙ before.sure;
       turns = subst (λ (n : ℕ). AreTurnsSoFar (g.V.Service.me c.args.service.now) (g.V.Service.opening c.args.service.now) (g.V.Service.seen c.args.service.now) (g.V.Service.seen c.serve_line.new.service) n
-          (ahead c.args.self.now.reader (g.S.Source.left c.args.input.now)) (ahead c.serve_line.new.self.reader (g.S.Source.left c.serve_line.new.input))
-          (g.T.Sink.written c.args.output.now) (g.T.Sink.written c.serve_line.new.output) (g.T.Sink.taken c.args.output.now) (g.T.Sink.taken c.serve_line.new.output) c.serve_line.new.self.answers) same
-          (so_far-more _ _ _ _ _ (c.loop-number.number - 1) (ahead c.args.self.now.reader (g.S.Source.left c.args.input.now)) (ahead c.loop-number.self.reader (g.S.Source.left c.loop-number.input)) (ahead c.serve_line.new.self.reader (g.S.Source.left c.serve_line.new.input))
-          _ _ _ _ _ _ c.loop-number.self.answers c.serve_line.new.self.answers c.serve_line.new.self.reader.held before.turns (rw (before.me, before.opening) at c.in_default.ensures.turn));
+          (ahead c.args.self.now.reader (g.S.Source.source c.args.input.now).left) (ahead c.serve_line.new.self.reader (g.S.Source.source c.serve_line.new.input).left)
+          (g.T.Sink.sink c.args.output.now) (g.T.Sink.sink c.serve_line.new.output) c.serve_line.new.self.answers) same
+          (so_far-more _ _ _ _ _ (c.loop-number.number - 1) (ahead c.args.self.now.reader (g.S.Source.source c.args.input.now).left) (ahead c.loop-number.self.reader (g.S.Source.source c.loop-number.input).left) (ahead c.serve_line.new.self.reader (g.S.Source.source c.serve_line.new.input).left)
+          _ _ _ c.loop-number.self.answers c.serve_line.new.self.answers c.serve_line.new.self.reader.held before.turns (rw (before.me, before.opening) at c.in_default.ensures.turn));
       read_faults = omega (arith, c.serve_line.ensures.read_faults);
       write_faults = omega (arith, c.serve_line.ensures.write_faults);
     }
@@ -40,14 +40,14 @@ loop-number-preserved g c =
 pub returns-in-Err-clause-turns : goal.returns-in-Err-clause-turns
 returns-in-Err-clause-turns g c =
     let before = c.loop-number.invariant in
-    so_far-end _ _ _ _ _ (c.loop-number.number - 1) (ahead c.args.self.now.reader (g.S.Source.left c.args.input.now)) (ahead c.loop-number.self.reader (g.S.Source.left c.loop-number.input)) (ahead c.serve_line.new.self.reader (g.S.Source.left c.serve_line.new.input))
-    _ _ _ _ _ _ c.loop-number.self.answers c.serve_line.new.self.answers c.serve_line.new.self.reader (g.S.Source.left c.serve_line.new.input) c.in-Err.end before.turns (rw (before.me, before.opening) at c.in-Err.ensures.turn)
+    so_far-end _ _ _ _ _ (c.loop-number.number - 1) (ahead c.args.self.now.reader (g.S.Source.source c.args.input.now).left) (ahead c.loop-number.self.reader (g.S.Source.source c.loop-number.input).left) (ahead c.serve_line.new.self.reader (g.S.Source.source c.serve_line.new.input).left)
+    _ _ _ c.loop-number.self.answers c.serve_line.new.self.answers c.serve_line.new.self.reader (g.S.Source.source c.serve_line.new.input).left c.in-Err.end before.turns (rw (before.me, before.opening) at c.in-Err.ensures.turn)
 
 pub returns-clause-turns : goal.returns-clause-turns
 returns-clause-turns g c =
     let before = c.loop-number.invariant in
     let last : c.loop-number.number - 1 ≡ LINES_MAX = omega arith in
-    so_far-end _ _ _ _ _ LINES_MAX (ahead c.args.self.now.reader (g.S.Source.left c.args.input.now)) (ahead c.loop-number.self.reader (g.S.Source.left c.loop-number.input)) (ahead c.see_end.new.self.reader (g.S.Source.left c.see_end.new.input))
-    _ _ _ _ _ _ c.loop-number.self.answers c.see_end.new.self.answers c.see_end.new.self.reader (g.S.Source.left c.see_end.new.input) c.see_end.result (rw last at before.turns)
-    (turn-no_call _ _ _ LINES_MAX (ahead c.loop-number.self.reader (g.S.Source.left c.loop-number.input)) (ahead c.see_end.new.self.reader (g.S.Source.left c.see_end.new.input)) c.see_end.new.self.reader.held
-    _ _ _ _ c.loop-number.self.answers c.see_end.new.self.answers (Err c.see_end.result) (rw before.opening at c.history_is_legal.ensures.legal) c.see_end.ensures.takes c.see_end.ensures.puts)
+    so_far-end _ _ _ _ _ LINES_MAX (ahead c.args.self.now.reader (g.S.Source.source c.args.input.now).left) (ahead c.loop-number.self.reader (g.S.Source.source c.loop-number.input).left) (ahead c.see_end.new.self.reader (g.S.Source.source c.see_end.new.input).left)
+    _ _ _ c.loop-number.self.answers c.see_end.new.self.answers c.see_end.new.self.reader (g.S.Source.source c.see_end.new.input).left c.see_end.result (rw last at before.turns)
+    (turn-no_call _ _ _ LINES_MAX (ahead c.loop-number.self.reader (g.S.Source.source c.loop-number.input).left) (ahead c.see_end.new.self.reader (g.S.Source.source c.see_end.new.input).left) c.see_end.new.self.reader.held
+    _ _ c.loop-number.self.answers c.see_end.new.self.answers (Err c.see_end.result) (rw before.opening at c.history_is_legal.ensures.legal) c.see_end.ensures.takes c.see_end.ensures.puts)

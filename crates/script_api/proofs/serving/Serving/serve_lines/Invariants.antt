@@ -12,8 +12,8 @@ invariant-loop-number g l = record {
   me : g.V.Service.me l.service ≡ g.V.Service.me l.fn.service;
   sure : g.V.Service.sure l.service ≡ g.V.Service.sure l.fn.service;
   turns : AreTurnsSoFar (g.V.Service.me l.fn.service) (g.V.Service.opening l.fn.service) (g.V.Service.seen l.fn.service) (g.V.Service.seen l.service)
-      (l.number - 1) (ahead l.fn.self.reader (g.S.Source.left l.fn.input)) (ahead l.self.reader (g.S.Source.left l.input))
-      (g.T.Sink.written l.fn.output) (g.T.Sink.written l.output) (g.T.Sink.taken l.fn.output) (g.T.Sink.taken l.output) l.self.answers;
-  read_faults : g.S.Source.read_faults l.fn.input ≤ g.S.Source.read_faults l.input;
-  write_faults : g.T.Sink.write_faults l.fn.output ≤ g.T.Sink.write_faults l.output;
+      (l.number - 1) (ahead l.fn.self.reader (g.S.Source.source l.fn.input).left) (ahead l.self.reader (g.S.Source.source l.input).left)
+      (g.T.Sink.sink l.fn.output) (g.T.Sink.sink l.output) l.self.answers;
+  read_faults : (g.S.Source.source l.fn.input).faults ≤ (g.S.Source.source l.input).faults;
+  write_faults : (g.T.Sink.sink l.fn.output).faults ≤ (g.T.Sink.sink l.output).faults;
 }

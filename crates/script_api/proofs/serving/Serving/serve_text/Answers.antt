@@ -10,32 +10,32 @@ use Rattle.script_api.proofs.serving.Serving.serve_text.Goals as goal
 pub returns-in-Ok-Skipped-clause-served : goal.returns-in-Ok-Skipped-clause-served
 returns-in-Ok-Skipped-clause-served g c =
     let is : Skipped ≡ script_line c.args.self.now.reader.line = rw c.in-Ok-Skipped.field-0-is at c.in-Ok-Skipped.ensures ∙ ap script_line c.line.ensures in
-    untold _ _ _ c.args.number (script_line c.args.self.now.reader.line) (g.T.Sink.written c.args.output.now) (g.T.Sink.taken c.args.output.now) c.args.self.now.answers (Ok tt) c.requires.legal
+    untold _ _ _ c.args.number (script_line c.args.self.now.reader.line) (g.T.Sink.sink c.args.output.now) c.args.self.now.answers (Ok tt) c.requires.legal
     (sym (ap (form_end c.args.number) is), ap calls_of is)
-    (IsPut-same _ _ c.args.self.now.answers c.args.self.now.answers (g.met.T.Sink.taken_fits c.args.output.now) refl)
+    (IsPut-same _ c.args.self.now.answers c.args.self.now.answers (g.met.T.Sink.taken_fits c.args.output.now) refl)
 
 pub returns-in-Ok-Timed-clause-served : goal.returns-in-Ok-Timed-clause-served
 returns-in-Ok-Timed-clause-served g c =
     let is : Timed c.in-Ok-Timed.moment c.in-Ok-Timed.call ≡ script_line c.args.self.now.reader.line = rw c.in-Ok-Timed.field-0-is at c.in-Ok-Timed.ensures ∙ ap script_line c.line.ensures in
-    tells _ _ _ _ c.args.number (script_line c.args.self.now.reader.line) _ _ _ _ _ _ c.make_call.result c.in-Ok-Timed.moment c.in-Ok-Timed.call (sym is) c.make_call.ensures.failed c.make_call.ensures.serves
+    tells _ _ _ _ c.args.number (script_line c.args.self.now.reader.line) _ _ _ _ c.make_call.result c.in-Ok-Timed.moment c.in-Ok-Timed.call (sym is) c.make_call.ensures.failed c.make_call.ensures.serves
 
 pub returns-in-Ok-NotBuilt-clause-served : goal.returns-in-Ok-NotBuilt-clause-served
 returns-in-Ok-NotBuilt-clause-served g c =
     let is : not_built ≡ script_line c.args.self.now.reader.line = rw c.in-Ok-NotBuilt.field-0-is at c.in-Ok-NotBuilt.ensures ∙ ap script_line c.line.ensures in
-    untold _ _ _ c.args.number (script_line c.args.self.now.reader.line) (g.T.Sink.written c.args.output.now) (g.T.Sink.taken c.args.output.now) c.args.self.now.answers (Err (NotBuilt c.args.number)) c.requires.legal
+    untold _ _ _ c.args.number (script_line c.args.self.now.reader.line) (g.T.Sink.sink c.args.output.now) c.args.self.now.answers (Err (NotBuilt c.args.number)) c.requires.legal
     (sym (ap (form_end c.args.number) is), refl)
-    (IsPut-same _ _ c.args.self.now.answers c.args.self.now.answers (g.met.T.Sink.taken_fits c.args.output.now) refl)
+    (IsPut-same _ c.args.self.now.answers c.args.self.now.answers (g.met.T.Sink.taken_fits c.args.output.now) refl)
 
 pub returns-in-Ok-Bad-clause-served : goal.returns-in-Ok-Bad-clause-served
 returns-in-Ok-Bad-clause-served g c =
     let is : Bad ≡ script_line c.args.self.now.reader.line = rw c.in-Ok-Bad.field-0-is at c.in-Ok-Bad.ensures ∙ ap script_line c.line.ensures in
-    untold _ _ _ c.args.number (script_line c.args.self.now.reader.line) (g.T.Sink.written c.args.output.now) (g.T.Sink.taken c.args.output.now) c.args.self.now.answers (Err (BadLine c.args.number)) c.requires.legal
+    untold _ _ _ c.args.number (script_line c.args.self.now.reader.line) (g.T.Sink.sink c.args.output.now) c.args.self.now.answers (Err (BadLine c.args.number)) c.requires.legal
     (sym (ap (form_end c.args.number) is), refl)
-    (IsPut-same _ _ c.args.self.now.answers c.args.self.now.answers (g.met.T.Sink.taken_fits c.args.output.now) refl)
+    (IsPut-same _ c.args.self.now.answers c.args.self.now.answers (g.met.T.Sink.taken_fits c.args.output.now) refl)
 
 pub returns-in-Err-clause-served : goal.returns-in-Err-clause-served
 returns-in-Err-clause-served g c =
-    untold _ _ _ c.args.number (script_line c.args.self.now.reader.line) (g.T.Sink.written c.args.output.now) (g.T.Sink.taken c.args.output.now) c.args.self.now.answers (Err NoMemory) c.requires.legal
+    untold _ _ _ c.args.number (script_line c.args.self.now.reader.line) (g.T.Sink.sink c.args.output.now) c.args.self.now.answers (Err NoMemory) c.requires.legal
     (inr refl)
-    (ArePut-wanting _ _ _ _ c.args.self.now.answers c.args.self.now.answers
-    (IsPut-same (g.T.Sink.written c.args.output.now) (g.T.Sink.taken c.args.output.now) c.args.self.now.answers c.args.self.now.answers (g.met.T.Sink.taken_fits c.args.output.now) refl))
+    (ArePut-wanting _ _ c.args.self.now.answers c.args.self.now.answers
+    (IsPut-same (g.T.Sink.sink c.args.output.now) c.args.self.now.answers c.args.self.now.answers (g.met.T.Sink.taken_fits c.args.output.now) refl))

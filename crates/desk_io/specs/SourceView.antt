@@ -1,0 +1,7 @@
+-- A source as contracts see it.
+use Rattle.std.specs.Prelude.{ℕ, List, Option}
+
+-- the bytes that it has left, where it tells them, and how many reads failed
+pub record SourceView : Type 0 where
+  pub left : Option (List ℕ)
+  pub faults : ℕ

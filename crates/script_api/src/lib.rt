@@ -25,6 +25,4 @@ pub use reply_line::write_answer;
 pub use run::script;
 
 #[cfg(test)]
-mod run_tests;
-#[cfg(test)]
 mod tests;

@@ -1,4 +1,4 @@
-//! Tests of scripts that are run.
+//! Scripts that are run.
 
 ghost use Rattle.std.specs.Prelude.{◌≤◌, [], true};
 

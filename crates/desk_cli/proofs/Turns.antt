@@ -1,12 +1,13 @@
 -- The turns of the loop that reads an auction.
-use Rattle.std.proofs.Common.{◌≡◌, ℕ, ◌+◌, ◌-◌, ◌<◌, ◌≤◌, List, [], ◌∷◌, ◌++◌, length, refl, sym, ◌∙◌, ap, arith, true, false, subst}
+use Rattle.std.proofs.Common.{◌≡◌, ℕ, ◌+◌, ◌-◌, ◌<◌, ◌≤◌, List, [], ◌++◌, length, refl, sym, ◌∙◌, ap, arith, true, false, subst}
 use Rattle.std.specs.Prelude.{◌≢◌, Option, Some, None, IfSome, IfErr, Result, Ok, Err, nat_le, nat_lt}
 use Rattle.std.specs.Option.{option_map}
 use Rattle.std.proofs.lemmas.Bool.{le-leb, lt-leb, lt-ltb, le-ltb, cond-true, cond-false}
 use Rattle.desk_io.specs.Lines.{Line, lines, first_line, after_first_line}
 use Rattle.desk_io.specs.NextLine.{ahead, IsFirstLine}
 use Rattle.desk_io.specs.Reader.{ReaderValue}
-use Rattle.desk_io.proofs.LineLaws.{lines-cons, lines-nil, first_line-last}
+use Rattle.desk_io.proofs.LineLaws.{lines-cons, lines-nil}
+use Rattle.desk_io.proofs.Ahead.{some-from_long}
 use Rattle.script_api.specs.declared.limits.TheConstants.{LINE_MAX, LINES_MAX}
 use Rattle.desk_cli.specs.declared.auction.Auction.{Auction}
 use Rattle.desk_cli.specs.declared.fault.LineFault.{LineFault}
@@ -72,10 +73,6 @@ end-turn reading number (Some bytes) from none =
     let count : (number - 1) + 1 ≡ number = omega arith in
     rw (none, lines-nil, count) refl
 
-some-from_long : (bytes : List ℕ) → LINE_MAX < (first_line bytes).size → 0 < length bytes
-some-from_long [] long = absurd (omega (arith, ap (λ (line : Line). line.size) (first_line-last [] (omega arith))))
-some-from_long (byte ∷ bytes) long = omega arith
-
 long-turn : (reading : SoFar) (number : ℕ) (before : Option (List ℕ)) → 1 ≤ number → number ≤ LINES_MAX →
     IfSome before (λ bytes. LINE_MAX < (first_line bytes).size) →
     IfSome before (λ bytes. told_from reading number bytes ≡ Err (LongLine number))
@@ -83,7 +80,7 @@ long-turn reading number None from to long = tt
 long-turn reading number (Some bytes) from to long =
     let few : number - 1 < LINES_MAX = omega arith in
     let count : (number - 1) + 1 ≡ number = omega arith in
-    rest-cons reading (number - 1) bytes (some-from_long bytes long) ∙ rw (fault-long reading (number - 1) (first_line bytes) few long, count) refl
+    rest-cons reading (number - 1) bytes (some-from_long LINE_MAX bytes long) ∙ rw (fault-long reading (number - 1) (first_line bytes) few long, count) refl
 
 many-turn : (reading : SoFar) (number : ℕ) (before : Option (List ℕ)) → LINES_MAX < number →
     IfSome before (λ bytes. 0 < length bytes) →
@@ -101,7 +98,7 @@ mapped f x (Some bytes) h = h
 
 pub long-is_some : (max : ℕ) (before : Option (List ℕ)) → max ≡ LINE_MAX → IfSome before (λ bytes. max < (first_line bytes).size) → IfSome before (λ bytes. 0 < length bytes)
 long-is_some max None is long = tt
-long-is_some max (Some bytes) is long = some-from_long bytes (rw is at long)
+long-is_some max (Some bytes) is long = some-from_long max bytes long
 
 pub first-is_some : (max : ℕ) (text : List ℕ) (before : Option (List ℕ)) → IfSome before (λ bytes. IsFirstLine max bytes text) → IfSome before (λ bytes. 0 < length bytes)
 first-is_some max text None first = tt
@@ -136,15 +133,6 @@ pub turned-long : (reading : SoFar) (number max : ℕ) (before : Option (List �
     Turned (option_map (told_from reading number) before) after at_end (Err (Fault (LongLine number)))
 turned-long reading number max before after at_end is from to long =
     mapped (told_from reading number) (Err (LongLine number)) before (long-turn reading number before from to (rw is at long))
-
--- where nothing is ahead, nothing is left
-nil_behind : (held bytes : List ℕ) → held ++ bytes ≡ [] → bytes ≡ []
-nil_behind [] bytes none = none
-nil_behind (byte ∷ held) bytes none = cc
-
-pub none_left : (reader : ReaderValue) (left : Option (List ℕ)) → IfSome (ahead reader left) (λ bytes. bytes ≡ []) → IfSome left (λ bytes. bytes ≡ [])
-none_left reader None none = tt
-none_left reader (Some bytes) none = nil_behind reader.held bytes none
 
 -- what the turns so far told leads to what the whole tells
 tells-from : (whole : Result AuctionValue LineFault) (rest : Option (Result AuctionValue LineFault)) (reading : SoFar) (result : Result ℕ ReadEnd) →

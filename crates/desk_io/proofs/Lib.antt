@@ -5,5 +5,6 @@ pub mod LineLaws
 mod Filling
 mod LineFeeds
 pub mod LineCuts
+pub mod Ahead
 mod NextLines
 mod Returns

@@ -1,13 +1,12 @@
 -- A turn of a script: from the line that was read and what was done with it to what the bytes ahead tell.
-use Rattle.std.proofs.Common.{◌≡◌, ℕ, ◌+◌, ◌-◌, ◌<◌, ◌≤◌, ◌⊎◌, inl, inr, true, false, List, [], ◌∷◌, ◌++◌, length, Option, Some, None, IfSome, refl, sym, ap, ◌∙◌, append-nil, arith}
+use Rattle.std.proofs.Common.{◌≡◌, ℕ, ◌+◌, ◌-◌, ◌<◌, ◌≤◌, ◌⊎◌, inl, inr, true, false, List, [], length, Option, Some, None, IfSome, refl, sym, ap, ◌∙◌, append-nil, arith}
 use Rattle.std.specs.Prelude.{Ok, Err}
 use Rattle.desk_types.specs.declared.call.Call.{Call}
-use Rattle.desk_io.specs.Lines.{Line, has_line_feed, lines, first_line, after_first_line}
-use Rattle.desk_io.specs.NextLine.{ahead, GivesLine, IsFirstLine}
+use Rattle.desk_io.specs.Lines.{has_line_feed, lines, first_line, after_first_line}
+use Rattle.desk_io.specs.NextLine.{GivesLine, IsFirstLine}
 use Rattle.desk_io.specs.declared.line_reader.LineGot.{LineGot}
 use Rattle.desk_io.specs.declared.line_reader.LineGot.TheVariants.{Line as GotLine, End as GotEnd, TooLong as GotTooLong, ReadFault as GotReadFault}
-use Rattle.desk_io.specs.Reader.{ReaderValue}
-use Rattle.desk_io.proofs.LineLaws.{first_line-last}
+use Rattle.desk_io.proofs.Ahead.{some-from_long}
 use Rattle.desk_io.proofs.LineCuts.{cut-none}
 use Rattle.script_api.specs.declared.limits.TheConstants.{LINE_MAX, LINES_MAX}
 use Rattle.script_api.specs.declared.ending.ScriptEnd.{ScriptEnd}
@@ -26,10 +25,6 @@ first-none all = (all, refl)
 pub takes-end : (before : ℕ) (whole now : Option (List ℕ)) (held : List ℕ) → IfSome whole (λ bytes. bytes ≡ []) → Takes before whole now held [] (Err Ended)
 takes-end before None now held none = tt
 takes-end before (Some bytes) now held none = record { made = told-end before bytes none; untaken = λ is. absurd (cc) }
-
-some-from_long : (max : ℕ) (bytes : List ℕ) → max < (first_line bytes).size → 0 < length bytes
-some-from_long max [] long = absurd (omega (arith, ap (λ (line : Line). line.size) (first_line-last [] (omega arith))))
-some-from_long max (byte ∷ bytes) long = omega arith
 
 -- a line too long stands ahead
 pub takes-long : (number max : ℕ) (whole now : Option (List ℕ)) (held : List ℕ) → 1 ≤ number → number ≤ LINES_MAX → max ≡ LINE_MAX →
@@ -64,15 +59,6 @@ takes-many max text whole after now held GotReadFault (inr is) gives = absurd (c
 pub takes-broken : (before : ℕ) (whole now : Option (List ℕ)) (held : List ℕ) → Takes before whole now held [] (Err WriteFault)
 takes-broken before None now held = tt
 takes-broken before (Some bytes) now held = record { made = first-none _; untaken = λ is. absurd (cc) }
-
--- where nothing is ahead, nothing is left
-nil_behind : (held bytes : List ℕ) → held ++ bytes ≡ [] → bytes ≡ []
-nil_behind [] bytes none = none
-nil_behind (byte ∷ held) bytes none = cc
-
-pub none_left : (reader : ReaderValue) (left : Option (List ℕ)) → IfSome (ahead reader left) (λ bytes. bytes ≡ []) → IfSome left (λ bytes. bytes ≡ [])
-none_left reader None none = tt
-none_left reader (Some bytes) none = nil_behind reader.held bytes none
 
 -- what the first line does to the script of the bytes ahead
 module _ (before : ℕ) (bytes text : List ℕ) (few : before < LINES_MAX) (first : IsFirstLine LINE_MAX bytes text) where

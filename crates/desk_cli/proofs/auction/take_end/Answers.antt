@@ -1,6 +1,7 @@
 use Rattle.std.proofs.Common.{refl}
 use Rattle.desk_io.specs.NextLine.{ahead}
-use Rattle.desk_cli.proofs.Turns.{long-is_some, none_left}
+use Rattle.desk_io.proofs.Ahead.{none_left}
+use Rattle.desk_cli.proofs.Turns.{long-is_some}
 use Rattle.desk_cli.proofs.auction.take_end.Goals as goal
 
 pub returns-in-End-clause-all_read : goal.returns-in-End-clause-all_read

@@ -3,7 +3,8 @@ use Rattle.std.specs.Option.{option_map}
 use Rattle.std.specs.Prelude.{None}
 use Rattle.desk_io.specs.NextLine.{ahead}
 use Rattle.desk_cli.specs.Running.{end_of, told_from}
-use Rattle.desk_cli.proofs.Turns.{turned-line, turned-ended, turned-end, turned-long, none_left}
+use Rattle.desk_io.proofs.Ahead.{none_left}
+use Rattle.desk_cli.proofs.Turns.{turned-line, turned-ended, turned-end, turned-long}
 use Rattle.desk_cli.proofs.auction.take_line.Goals as goal
 
 pub returns-in-Ok-clause-turned : goal.returns-in-Ok-clause-turned

@@ -1,5 +1,6 @@
 use Rattle.desk_io.specs.NextLine.{ahead}
-use Rattle.script_api.proofs.Turning.{takes-end, takes-long, none_left}
+use Rattle.desk_io.proofs.Ahead.{none_left}
+use Rattle.script_api.proofs.Turning.{takes-end, takes-long}
 use Rattle.script_api.proofs.serving.Serving.next_line.Goals as goal
 
 pub returns-in-End-clause-reads : goal.returns-in-End-clause-reads

@@ -1,5 +1,6 @@
 use Rattle.desk_io.specs.NextLine.{ahead}
-use Rattle.script_api.proofs.Turning.{takes-end, takes-many, none_left}
+use Rattle.desk_io.proofs.Ahead.{none_left}
+use Rattle.script_api.proofs.Turning.{takes-end, takes-many}
 use Rattle.script_api.proofs.serving.Serving.see_end.Goals as goal
 
 pub returns-in-End-clause-takes : goal.returns-in-End-clause-takes

@@ -1,9 +1,8 @@
 //! What the first line of an auction tells.
 
-ghost use Rattle.std.specs.Prelude.{◌≡◌, ◌≤◌, ◌↔◌, IsSome, IfSome};
+ghost use Rattle.std.specs.Prelude.{◌≡◌};
 ghost use Rattle.desk_types.specs.SettingsValue.{IsReserve, IsFloor, IsPlaces};
 
-use desk_types::limits::{BID_MAX, BID_MIN, FLOOR_MAX, PLACES_MAX};
 use std::marker::Model;
 
 /// The conditions of an auction: the reserve is 1 to 1,000,000 cents, the floor is a score of 0 to

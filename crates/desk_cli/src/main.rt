@@ -18,7 +18,6 @@ mod script;
 mod top;
 
 use desk_io::{StdSink, StdSource};
-use std::alloc::{AllocError, Global};
 use std::process::ExitCode;
 use std::{env, io};
 

@@ -1,6 +1,6 @@
 //! A click.
 
-ghost use Rattle.std.specs.Prelude.{◌≡◌, ℕ, List, map, is_some, IsTrue, IsSome, IfSome, ◌↔◌};
+ghost use Rattle.std.specs.Prelude.{◌≡◌, map, is_some, IsTrue, IsSome, IfSome, ◌↔◌};
 ghost use Rattle.std.specs.Option.{option_copied};
 ghost use Rattle.desk_types.specs.Judged.{judged};
 ghost use Rattle.desk_types.specs.State.{placement_of};

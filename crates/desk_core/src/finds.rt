@@ -1,6 +1,6 @@
 //! Rows that are looked for and counted.
 
-ghost use Rattle.std.specs.Prelude.{◌≡◌, ◌<◌, ◌^◌, ◌==◌, ◌&&◌, not, count_by, bytes_eq};
+ghost use Rattle.std.specs.Prelude.{◌≡◌, ◌<◌, ◌^◌, ◌==◌, ◌&&◌, count_by, bytes_eq};
 ghost use Rattle.std.specs.List.{list_any};
 
 use desk_types::{Account, Campaign, Line, Negative};

@@ -1,6 +1,6 @@
 //! A window on the bytes of a source: the bytes read ahead, and the last line cut from them.
 
-ghost use Rattle.std.specs.Prelude.{◌≡◌, ◌<◌, ◌≤◌, [], ◌++◌, length, take, drop, IfOk};
+ghost use Rattle.std.specs.Prelude.{◌≡◌, ◌<◌, ◌≤◌, [], length, take, drop, IfOk};
 ghost use Rattle.desk_io.specs.Reading.{ReadCause};
 ghost use Rattle.desk_io.specs.WindowValue.{Fills, bytes_got};
 

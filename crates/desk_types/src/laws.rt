@@ -1,6 +1,6 @@
 //! Laws of the definitions, in the words of the subject. Each is what its function ensures.
 
-ghost use Rattle.std.specs.Prelude.{◌≡◌, ◌≢◌, ℕ, ◌*◌, ◌≤◌, ◌⊎◌, IsTrue, false, List, Contains, All, IfSome};
+ghost use Rattle.std.specs.Prelude.{◌≡◌, ◌≢◌, ℕ, ◌≤◌, ◌⊎◌, IsTrue, false, List, Contains, All, IfSome};
 ghost use Rattle.desk_types.specs.AdValue.{AdValue, IsInRange, is_same_line, score};
 ghost use Rattle.desk_types.specs.Laws.{AreBestOfAccounts, AreFirstPlaces, IsNextBelow, IsLeastPrice};
 ghost use Rattle.desk_types.specs.Order.{better};

@@ -1,6 +1,7 @@
-// Patterns and matching, on texts.
+//! Patterns and matching, on texts.
+
 use crate::{MatchType, Pattern, PatternError, matches};
-use query_words::{Twin, Words, words};
+use query_words::{Twin, words};
 use std::alloc::Global;
 use std::process::Abort;
 use std::test::Fail;

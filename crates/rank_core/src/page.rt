@@ -10,7 +10,7 @@ ghost use Rattle.rank_core.specs.Ranked.{IsRankedAmong, ranked};
 ghost use Rattle.std.specs.List.{list_any};
 ghost use Rattle.std.specs.List.Sorted.{IsPermutation, IsSortedBy};
 ghost use Rattle.std.specs.Ordering.{is_lt};
-ghost use Rattle.std.specs.Prelude.{◌≡◌, ℕ, ◌≤◌, ◌==◌, take, All, IfOk, OnOk};
+ghost use Rattle.std.specs.Prelude.{◌≡◌, ◌≤◌, ◌==◌, take, All, IfOk, OnOk};
 
 use arrayvec::ArrayVec;
 use desk_types::limits::{BID_MAX, QUALITY_MAX};

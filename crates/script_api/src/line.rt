@@ -1,7 +1,6 @@
 //! What a line of a script tells.
 
 ghost use Rattle.std.specs.Prelude.{◌≡◌, IfOk, Some, None};
-ghost use Rattle.script_api.specs.Fields.{fields};
 ghost use Rattle.script_api.specs.Script.{script_line, told_by_text as text_tells, not_told as other_tells};
 
 use crate::call::call_told;

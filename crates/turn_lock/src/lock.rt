@@ -1,5 +1,5 @@
 //! The lock and its calls.
-ghost use Rattle.std.specs.Prelude.{◌≡◌, ◌≢◌, ℕ, ◌^◌, ◌<◌, ◌≤◌, [], length, IfOk, IfErr, All, Any, vec_len, vec_capacity};
+ghost use Rattle.std.specs.Prelude.{◌≡◌, ◌^◌, ◌<◌, ◌≤◌, [], length, IfOk, IfErr, All, Any, vec_len, vec_capacity};
 ghost use Rattle.turn_lock.specs.Lists.{IsPrefix, items_by, GrowsBy};
 ghost use Rattle.turn_lock.specs.Passes.{AreNew, AreAll, Unites};
 ghost use Rattle.turn_lock.specs.Views.{newcomer};

@@ -2,7 +2,6 @@
 
 use crate::{Ad, better};
 use std::process::Abort;
-use std::test::Fail;
 
 #[test]
 fn an_ad_has_bid_and_quality_in_range(rt: HostRuntime) {

@@ -5,7 +5,6 @@ ghost use Rattle.std.specs.Prelude.{[], true};
 use crate::{Call, Detail, Fault, Field, Refusal, Reply, Service};
 use match_types::PatternError;
 use query_words::{Text, Twin};
-use std::process::Abort;
 use std::test::Fail;
 
 #[test]

@@ -2,7 +2,6 @@
 
 use crate::{LinkText, Settings, day_of, is_headline, is_key};
 use query_words::Twin;
-use std::process::Abort;
 use std::test::Fail;
 
 #[test]

@@ -21,15 +21,15 @@ is_matched pattern query = meets (kind_of pattern) (words_in pattern) query
 
 -- whether its account is there and not suspended
 abbrev pub has_active_account : State → Line → Bool
-has_active_account S l = list_any (λ a. a.number == l.account && not a.suspended) S.accounts
+has_active_account S l = list_any (λ a. a.number == l.account && not a.suspended) S.tables.accounts
 
 -- whether its campaign is there and on
 abbrev pub has_active_campaign : State → Line → Bool
-has_active_campaign S l = list_any (λ c. c.account == l.account && (c.number == l.campaign && c.on)) S.campaigns
+has_active_campaign S l = list_any (λ c. c.account == l.account && (c.number == l.campaign && c.on)) S.tables.campaigns
 
 -- whether a live negative of its campaign matches the query
 abbrev pub is_kept_out : State → List (List ℕ) → Line → Bool
-is_kept_out S query l = list_any (λ n. n.account == l.account && (n.campaign == l.campaign && (n.live && is_matched n.pattern query))) S.negatives
+is_kept_out S query l = list_any (λ n. n.account == l.account && (n.campaign == l.campaign && (n.live && is_matched n.pattern query))) S.tables.negatives
 
 -- whether its bid is at least the reserve
 abbrev pub meets_reserve : State → Line → Bool
@@ -43,15 +43,19 @@ meets_floor S l = nat_le S.settings.floor (score (ad_of l))
 abbrev pub can_pay : State → Line → Bool
 can_pay S l = int_le (pos l.bid) (free S l.account l.campaign (day_of S.moment))
 
--- whether a line competes for the words of a query
-unfoldable pub is_eligible : State → List (List ℕ) → Line → Bool
-is_eligible S query l =
+-- whether a line competes for the words of a query, its campaign's money aside
+unfoldable pub is_candidate : State → List (List ℕ) → Line → Bool
+is_candidate S query l =
     has_active_account S l && (has_active_campaign S l && (l.on && (is_matched l.pattern query && (not (is_kept_out S query l)
-    && (meets_reserve S l && (meets_floor S l && can_pay S l))))))
+    && (meets_reserve S l && meets_floor S l)))))
+
+-- whether a line competes for the words of a query: it is a candidate, and its campaign can pay
+abbrev pub is_eligible : State → List (List ℕ) → Line → Bool
+is_eligible S query l = is_candidate S query l && can_pay S l
 
 -- the lines that compete, as ads
 abbrev pub eligible_ads : State → List (List ℕ) → List AdValue
-eligible_ads S query = map ad_of (filter (is_eligible S query) S.lines)
+eligible_ads S query = map ad_of (filter (is_eligible S query) S.tables.lines)
 
 -- the entrants of a query: for each account with a line that competes its best such line
 abbrev pub entrants_for : State → List (List ℕ) → List AdValue

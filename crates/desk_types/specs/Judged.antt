@@ -1,5 +1,5 @@
 -- Why a call is refused: for each call a table of its refusals in order, of which the first that holds is given.
-use Rattle.std.specs.Prelude.{ℕ, ◌+◌, Bool, false, not, ◌==◌, ◌&&◌, nat_le, nat_lt, if◌then◌else◌, List, [], ◌∷◌, length, Option, None, Some, is_none, find, option_map, bytes_eq}
+use Rattle.std.specs.Prelude.{ℕ, ◌+◌, Bool, false, not, ◌==◌, ◌&&◌, nat_le, nat_lt, if◌then◌else◌, List, [], ◌∷◌, length, ◌++◌, Option, None, Some, is_none, find, option_map, bytes_eq}
 use Rattle.std.specs.List.{list_any}
 use Rattle.query_words.specs.declared.cut.TheConstants.{QUERY_BYTES, QUERY_WORDS}
 use Rattle.query_words.specs.Words.{words_of}
@@ -14,11 +14,13 @@ use Rattle.desk_types.specs.declared.refusal.Refusal.TheVariants.{BadKey, NoAcco
 use Rattle.desk_types.specs.declared.refusal.Field.TheVariants as field
 use Rattle.desk_types.specs.declared.rows.Line.{Line}
 use Rattle.desk_types.specs.declared.rows.Negative.{Negative}
+use Rattle.desk_types.specs.declared.tables.Tables.{Tables}
 use Rattle.desk_types.specs.AdValue.{AdValue}
 use Rattle.desk_types.specs.Eligible.{entrants_for}
 use Rattle.desk_types.specs.Fields.{is_key, is_headline, is_link}
 use Rattle.desk_types.specs.Page.{page}
-use Rattle.desk_types.specs.State.{State, account_of, campaign_of, placement_of, campaigns_of, lines_of, negatives_of}
+use Rattle.desk_types.specs.State.{State}
+use Rattle.desk_types.specs.Tables.{account_of, campaign_of, placement_of, campaigns_of, lines_of, negatives_of}
 
 -- the refusal, where the test holds
 abbrev pub when : Bool → Refusal → Option Refusal
@@ -35,23 +37,47 @@ abbrev pub is_within : ℕ → ℕ → ℕ → Bool
 is_within low high n = nat_le low n && nat_le n high
 
 -- whether the key is that of the account
-abbrev pub key_fits : State → ℕ → List ℕ → Bool
-key_fits S account key = list_any (λ a. a.number == account && bytes_eq a.key key) S.accounts
+abbrev pub key_fits : Tables → ℕ → List ℕ → Bool
+key_fits T account key = list_any (λ a. a.number == account && bytes_eq a.key key) T.accounts
+
+-- a line as an advertiser asks for it: the campaign, the bid, and the texts of pattern, headline and link
+pub record AskedLine : Type 0 where
+  pub campaign : ℕ
+  pub bid : ℕ
+  pub pattern : List ℕ
+  pub headline : List ℕ
+  pub link : List ℕ
+
+-- whether a line is of the campaign and has the pattern of this text
+abbrev pub is_line_like : ℕ → ℕ → List ℕ → Line → Bool
+is_line_like account campaign pattern l =
+    l.account == account && (l.campaign == campaign && is_same_pattern l.pattern pattern)
 
 -- the line of the campaign with the same pattern as this text's, if there is one
-abbrev pub same_line : State → ℕ → ℕ → List ℕ → Option Line
-same_line S account campaign pattern = find (λ l. l.account == account && (l.campaign == campaign && is_same_pattern l.pattern (trimmed pattern))) S.lines
+abbrev pub same_line : Tables → ℕ → ℕ → List ℕ → Option Line
+same_line T account campaign pattern = find (is_line_like account campaign (trimmed pattern)) T.lines
+
+-- whether a negative is of the campaign, has the pattern of this text, and lives, or was dropped
+abbrev pub is_live_like : ℕ → ℕ → List ℕ → Negative → Bool
+is_live_like account campaign pattern n =
+    n.account == account && (n.campaign == campaign && (n.live && is_same_pattern n.pattern pattern))
+
+abbrev pub is_dropped_like : ℕ → ℕ → List ℕ → Negative → Bool
+is_dropped_like account campaign pattern n =
+    n.account == account && (n.campaign == campaign && (not n.live && is_same_pattern n.pattern pattern))
 
 -- the live negative of the campaign with the same pattern as this text's, if there is one, and the dropped one
-abbrev pub live_negative : State → ℕ → ℕ → List ℕ → Option Negative
-live_negative S account campaign pattern = find (λ n. n.account == account && (n.campaign == campaign && (n.live && is_same_pattern n.pattern (negative_text pattern)))) S.negatives
+abbrev pub live_negative : Tables → ℕ → ℕ → List ℕ → Option Negative
+live_negative T account campaign pattern = find (is_live_like account campaign (negative_text pattern)) T.negatives
 
-abbrev pub dropped_negative : State → ℕ → ℕ → List ℕ → Option Negative
-dropped_negative S account campaign pattern = find (λ n. n.account == account && (n.campaign == campaign && (not n.live && is_same_pattern n.pattern (negative_text pattern)))) S.negatives
+abbrev pub dropped_negative : Tables → ℕ → ℕ → List ℕ → Option Negative
+dropped_negative T account campaign pattern =
+    find (is_dropped_like account campaign (negative_text pattern)) T.negatives
 
 -- whether the account has a live negative of this number
-abbrev pub has_live_negative : State → ℕ → ℕ → Bool
-has_live_negative S account negative = list_any (λ n. n.account == account && (n.number == negative && n.live)) S.negatives
+abbrev pub has_live_negative : Tables → ℕ → ℕ → Bool
+has_live_negative T account negative =
+    list_any (λ n. n.account == account && (n.number == negative && n.live)) T.negatives
 
 -- the number of places asked for, or that of the settings
 abbrev pub places_of : State → Option ℕ → ℕ
@@ -66,50 +92,69 @@ is_bad_places (Some places) = not (is_within 1 PLACES_MAX places)
 abbrev pub page_of : State → List ℕ → Option ℕ → List AdValue
 page_of S text places = page (entrants_for S (words_of text)) (places_of S places)
 
+-- the refusals of an advertiser's call: the account is not there, or the key is not its own
+abbrev pub owner_rows : Tables → ℕ → List ℕ → List (Option Refusal)
+owner_rows T account key =
+    when (is_none (account_of T account)) NoAccount
+    ∷ when (not (key_fits T account key)) BadKey
+    ∷ []
+
+-- the refusal of a call that names a campaign
+abbrev pub campaign_row : Tables → ℕ → ℕ → Option Refusal
+campaign_row T account campaign = when (is_none (campaign_of T account campaign)) NoCampaign
+
+-- the refusals of a line that is asked for
+abbrev pub line_rows : Tables → ℕ → AskedLine → List (Option Refusal)
+line_rows T account asked =
+    campaign_row T account asked.campaign
+    ∷ when (not (is_within BID_MIN BID_MAX asked.bid)) (BadField field.Bid)
+    ∷ option_map BadPattern (refusal asked.pattern)
+    ∷ when (not (is_headline asked.headline)) (BadField field.Headline)
+    ∷ when (not (is_link asked.link)) (BadField field.Link)
+    ∷ option_map (λ l. LineThere l.number) (same_line T account asked.campaign asked.pattern)
+    ∷ when (nat_le LINES_MAX (lines_of T account)) LinesFull
+    ∷ []
+
+-- the refusals of a negative that is asked for, of a campaign that is there
+abbrev pub negative_rows : Tables → ℕ → ℕ → List ℕ → List (Option Refusal)
+negative_rows T account campaign pattern =
+    option_map BadPattern (negative_refusal pattern)
+    ∷ option_map (λ n. NegativeThere n.number) (live_negative T account campaign pattern)
+    ∷ when (is_none (dropped_negative T account campaign pattern) && nat_le NEGATIVES_MAX (negatives_of T account))
+        NegativesFull
+    ∷ []
+
 -- the refusals of a call, in order
 unfoldable pub refusals : State → Call → List (Option Refusal)
 refusals S (AddAccount key) =
     when (not (is_key key)) (BadField field.Key)
-    ∷ when (nat_le ACCOUNTS_MAX (length S.accounts)) AccountsFull
+    ∷ when (nat_le ACCOUNTS_MAX (length S.tables.accounts)) AccountsFull
     ∷ []
 refusals S (AddCampaign account key budget) =
-    when (is_none (account_of S account)) NoAccount
-    ∷ when (not (key_fits S account key)) BadKey
-    ∷ when (not (is_within BUDGET_MIN BUDGET_MAX budget)) (BadField field.Budget)
-    ∷ when (nat_le CAMPAIGNS_MAX (campaigns_of S account)) CampaignsFull
+    owner_rows S.tables account key
+    ++ when (not (is_within BUDGET_MIN BUDGET_MAX budget)) (BadField field.Budget)
+    ∷ when (nat_le CAMPAIGNS_MAX (campaigns_of S.tables account)) CampaignsFull
     ∷ []
 refusals S (AddLine account key campaign bid pattern headline link) =
-    when (is_none (account_of S account)) NoAccount
-    ∷ when (not (key_fits S account key)) BadKey
-    ∷ when (is_none (campaign_of S account campaign)) NoCampaign
-    ∷ when (not (is_within BID_MIN BID_MAX bid)) (BadField field.Bid)
-    ∷ option_map BadPattern (refusal pattern)
-    ∷ when (not (is_headline headline)) (BadField field.Headline)
-    ∷ when (not (is_link link)) (BadField field.Link)
-    ∷ option_map (λ l. LineThere l.number) (same_line S account campaign pattern)
-    ∷ when (nat_le LINES_MAX (lines_of S account)) LinesFull
-    ∷ []
+    owner_rows S.tables account key
+    ++ line_rows S.tables account
+        (record { campaign = campaign; bid = bid; pattern = pattern; headline = headline; link = link })
 refusals S (AddNegative account key campaign pattern) =
-    when (is_none (account_of S account)) NoAccount
-    ∷ when (not (key_fits S account key)) BadKey
-    ∷ when (is_none (campaign_of S account campaign)) NoCampaign
-    ∷ option_map BadPattern (negative_refusal pattern)
-    ∷ option_map (λ n. NegativeThere n.number) (live_negative S account campaign pattern)
-    ∷ when (is_none (dropped_negative S account campaign pattern) && nat_le NEGATIVES_MAX (negatives_of S account)) NegativesFull
-    ∷ []
+    owner_rows S.tables account key
+    ++ campaign_row S.tables account campaign
+    ∷ negative_rows S.tables account campaign pattern
 refusals S (DropNegative account key negative) =
-    when (is_none (account_of S account)) NoAccount
-    ∷ when (not (key_fits S account key)) BadKey
-    ∷ when (not (has_live_negative S account negative)) NoNegative
+    owner_rows S.tables account key
+    ++ when (not (has_live_negative S.tables account negative)) NoNegative
     ∷ []
 refusals S (Search text places) =
     when (nat_lt QUERY_BYTES (length text)) (QueryTooLong (length text))
     ∷ when (nat_lt QUERY_WORDS (length (words_of text))) (QueryTooMany (length (words_of text)))
     ∷ when (is_bad_places places) (BadField field.Places)
-    ∷ when (nat_lt S.settings.placements (length S.placements + length (page_of S text places))) PlacementsFull
+    ∷ when (nat_lt S.settings.placements (length S.tables.placements + length (page_of S text places))) PlacementsFull
     ∷ []
 refusals S (Click placement) =
-    when (is_none (placement_of S placement)) NoPlacement
+    when (is_none (placement_of S.tables placement)) NoPlacement
     ∷ []
 
 -- the refusal of a call, if it is refused

@@ -1,41 +1,38 @@
 -- What holds of the ledger, in the words of the subject.
-use Rattle.std.specs.Prelude.{◌≡◌, ℕ, ◌≤ℤ◌, pos, List, Contains}
+use Rattle.std.specs.Prelude.{◌≡◌, ℕ, ◌+◌, ◌≤◌, List, ◌++◌, length, map, Option, Contains}
+use Rattle.query_words.specs.Words.{words_of}
 use Rattle.desk_types.specs.declared.call.Call.TheVariants.{Click}
-use Rattle.desk_types.specs.AdValue.{AdValue}
-use Rattle.desk_types.specs.Eligible.{entrants_for}
-use Rattle.desk_types.specs.Laws.{AreFirstPlaces, IsLeastPrice}
-use Rattle.desk_types.specs.Money.{free}
-use Rattle.desk_types.specs.Page.{AreOfDifferentAccounts}
-use Rattle.desk_types.specs.Price.{price}
 use Rattle.desk_types.specs.declared.entry.Entry.{Entry}
+use Rattle.desk_types.specs.declared.reply.Reply.TheVariants.{Page, Went}
+use Rattle.desk_types.specs.declared.reply.Spot.{Spot}
+use Rattle.desk_types.specs.declared.rows.Placement.{Placement}
+use Rattle.desk_types.specs.AdValue.{AdValue}
+use Rattle.desk_types.specs.Changes.{all_placed, link_clicked, spot_of}
+use Rattle.desk_types.specs.Eligible.{eligible_ads, entrants_for}
+use Rattle.desk_types.specs.Judged.{places_of}
+use Rattle.desk_types.specs.Laws.{AreBestOfAccounts, AreFirstPlaces, IsLeastPrice}
+use Rattle.desk_types.specs.Price.{price}
 use Rattle.desk_types.specs.Run.{run}
-use Rattle.desk_types.specs.State.{State, catalogue}
-use Rattle.desk_types.specs.Step.{step}
+use Rattle.desk_types.specs.State.{State, IsSameButForMoment}
+use Rattle.desk_types.specs.Step.{Reached, step}
 
--- two states have the same rows, whatever their moments
-pub record HaveSameRows (S T : State) : Type 0 where
-  pub settings : T.settings ≡ S.settings
-  pub edition : T.edition ≡ S.edition
-  pub catalogue : catalogue T ≡ catalogue S
-  pub budgets : T.budgets ≡ S.budgets
-  pub placements : T.placements ≡ S.placements
+-- a search's page by the generalised second price: it is answered in the state S, `ads` are shown, and `new` is put
+pub record IsSecondPricePage (S : State) (text : List ℕ) (places : Option ℕ) (ads : List AdValue) (new : List Placement) : Type 0 where
+  pub best_of_accounts : AreBestOfAccounts (eligible_ads S (words_of text)) (entrants_for S (words_of text))
+  pub first_places : AreFirstPlaces (entrants_for S (words_of text)) (places_of S places) ads
+  pub placed : new ≡ all_placed S (entrants_for S (words_of text)) (length S.tables.placements + 1) ads
+  pub least_prices : (a : AdValue) → Contains ads a → let entered = entrants_for S (words_of text) in
+      IsLeastPrice S.settings.reserve S.settings.floor entered a (price S.settings.reserve S.settings.floor entered a)
 
--- no campaign has used more than its budget on any day
-abbrev pub StaysWithinBudgets : State → Type 0
-StaysWithinBudgets S = (account campaign day : ℕ) → pos 0 ≤ℤ free S account campaign day
+-- the page that is answered, and the rows that it puts
+pub record IsPageAnswered (S : State) (text : List ℕ) (places : Option ℕ) (spots : List Spot) (T : State) : Type 0 where
+  pub ads : List AdValue
+  pub new : List Placement
+  pub page : IsSecondPricePage S text places ads new
+  pub shown : spots ≡ map (spot_of S.tables) new
+  pub put : T.tables.placements ≡ S.tables.placements ++ new
 
--- a page of n places for a query: one ad an account, the first places in order, each at the least price that keeps its place
-pub record IsFairPage (S : State) (query : List (List ℕ)) (n : ℕ) (ads : List AdValue) : Type 0 where
-  pub different_accounts : AreOfDifferentAccounts ads
-  pub first_places : AreFirstPlaces (entrants_for S query) n ads
-  pub least_prices : (a : AdValue) → Contains ads a → IsLeastPrice S.settings.reserve S.settings.floor (entrants_for S query) a (price S.settings.reserve S.settings.floor (entrants_for S query) a)
-
--- of a click after another one on the same placement: it changes no row and gives the same reply
-pub record IsRepeatedClick (S : State) (first second placement : ℕ) : Type 0 where
-  pub rows : HaveSameRows (step S first (Click placement)).state (step (step S first (Click placement)).state second (Click placement)).state
-  pub reply : (step (step S first (Click placement)).state second (Click placement)).reply ≡ (step S first (Click placement)).reply
-
--- of a click on a placement that was clicked before, whatever entries came between: it changes no row and gives the same reply
-pub record IsLaterClick (S : State) (first : ℕ) (between : List Entry) (second placement : ℕ) : Type 0 where
-  pub rows : HaveSameRows (run (step S first (Click placement)).state between) (step (run (step S first (Click placement)).state between) second (Click placement)).state
-  pub reply : (step (run (step S first (Click placement)).state between) second (Click placement)).reply ≡ (step S first (Click placement)).reply
+-- a click changes no row, and its reply goes to this link
+pub record ChangesNoRow (S : State) (moment placement : ℕ) (link : List ℕ) : Type 0 where
+  pub rows : IsSameButForMoment S (step S moment (Click placement)).state
+  pub reply : (step S moment (Click placement)).reply ≡ Went link

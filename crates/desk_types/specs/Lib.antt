@@ -1,9 +1,11 @@
 pub mod AdValue
+pub mod Changes
 pub mod Day
 pub mod Eligible
 pub mod Fields
 pub mod Journal
 pub mod Judged
+pub mod Keys
 pub mod Laws
 pub mod LedgerLaws
 pub mod Money
@@ -14,6 +16,8 @@ pub mod Refusal
 pub mod Run
 pub mod Serving
 pub mod SettingsValue
+pub mod Sound
 pub mod State
 pub mod Step
+pub mod Tables
 pub mod Weight

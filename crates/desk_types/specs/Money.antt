@@ -18,36 +18,36 @@ is_latest budgets account campaign day b = not (list_any (λ other. is_set_by ac
 
 -- the budget: the amount of the campaign's setting of the latest day up to this one, or 0 where it has none
 unfoldable pub budget : State → ℕ → ℕ → ℕ → ℕ
-budget S account campaign day = unwrap_or (option_map (λ b. b.amount) (find (λ b. is_set_by account campaign day b && is_latest S.budgets account campaign day b) S.budgets)) 0
+budget S account campaign day = unwrap_or (option_map (λ b. b.amount) (find (λ b. is_set_by account campaign day b && is_latest S.tables.budgets account campaign day b) S.tables.budgets)) 0
 
 -- whether a placement is of this campaign and was shown on this day
 abbrev pub is_shown_on : ℕ → ℕ → ℕ → Placement → Bool
 is_shown_on account campaign day p = p.account == account && (p.campaign == campaign && day_of p.shown == day)
 
--- whether a click was paid for: credited ones too, which go to the statement alone
-abbrev pub is_paid : Fate → Bool
-is_paid Open = false
-is_paid (Settled at) = true
-is_paid (Credited settled credited) = true
+-- whether the price is spent: a click settled it. A credit goes to the statement alone
+abbrev pub is_spent : Fate → Bool
+is_spent Open = false
+is_spent (Settled at) = true
+is_spent (Credited settled credited) = true
 
 abbrev pub is_open : Fate → Bool
 is_open Open = true
 is_open (Settled at) = false
 is_open (Credited settled credited) = false
 
--- whether the price of a placement is held at this moment: it was not clicked, and the deadline is to come
-abbrev pub is_held : ℕ → Placement → Bool
-is_held moment p = is_open p.fate && nat_lt moment p.deadline
+-- whether the price of a placement is escrowed at this moment: it was not clicked, and the deadline is to come
+abbrev pub is_escrowed : ℕ → Placement → Bool
+is_escrowed moment p = is_open p.fate && nat_lt moment p.deadline
 
--- what the paid clicks cost, of the placements of the campaign that were shown on the day
+-- the prices that clicks settled, of the placements of the campaign that were shown on the day
 unfoldable pub spent : State → ℕ → ℕ → ℕ → ℕ
-spent S account campaign day = sum_by (λ p. p.price) (filter (λ p. is_shown_on account campaign day p && is_paid p.fate) S.placements)
+spent S account campaign day = sum_by (λ p. p.price) (filter (λ p. is_shown_on account campaign day p && is_spent p.fate) S.tables.placements)
 
--- what is held for clicks that may still come
+-- the prices that are kept for clicks that may still come
 unfoldable pub escrowed : State → ℕ → ℕ → ℕ → ℕ
-escrowed S account campaign day = sum_by (λ p. p.price) (filter (λ p. is_shown_on account campaign day p && is_held S.moment p) S.placements)
+escrowed S account campaign day = sum_by (λ p. p.price) (filter (λ p. is_shown_on account campaign day p && is_escrowed S.moment p) S.tables.placements)
 
--- what is spent or held
+-- what is spent or escrowed
 abbrev pub used : State → ℕ → ℕ → ℕ → ℕ
 used S account campaign day = spent S account campaign day + escrowed S account campaign day
 

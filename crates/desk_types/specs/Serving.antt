@@ -39,12 +39,12 @@ pub record Serves (caller : ℕ) (opening : State) (seen : List Entry) (moment :
   pub legal : IsLegal opening.settings left
 
 -- a list of calls with their moments, one after another, with these results; entries of others may come last
-unfoldable pub Served : ℕ → State → List Entry → List (ℕ × Call) → List (Result Reply Fault) → List Entry → Type 0
-Served caller opening seen [] [] left = (others : List Entry) × AreOfOthers caller others × (left ≡ seen ++ others) × IsLegal opening.settings left
-Served caller opening seen (call ∷ calls) (result ∷ results) left =
-    (between : List Entry) × Serves caller opening seen call.0 call.1 result between × Served caller opening between calls results left
-Served caller opening seen [] (result ∷ results) left = ⊥
-Served caller opening seen (call ∷ calls) [] left = ⊥
+unfoldable pub AreServed : ℕ → State → List Entry → List (ℕ × Call) → List (Result Reply Fault) → List Entry → Type 0
+AreServed caller opening seen [] [] left = (others : List Entry) × AreOfOthers caller others × (left ≡ seen ++ others) × IsLegal opening.settings left
+AreServed caller opening seen (call ∷ calls) (result ∷ results) left =
+    (between : List Entry) × Serves caller opening seen call.0 call.1 result between × AreServed caller opening between calls results left
+AreServed caller opening seen [] (result ∷ results) left = ⊥
+AreServed caller opening seen (call ∷ calls) [] left = ⊥
 
 -- the result is no fault of the keeper
 abbrev pub IsSureResult : Result Reply Fault → Type 0

@@ -1,46 +1,66 @@
 //! Laws of the ledger, in the words of the subject. Each is what its function ensures.
 
-ghost use Rattle.std.specs.Prelude.{◌≡◌, ℕ, false, List, [], ◌∷◌, ◌++◌, All, Result};
+ghost use Rattle.std.specs.Prelude.{◌≡◌, ℕ, ◌≤◌, false, List, [], ◌∷◌, ◌++◌, All, Option, Result};
+ghost use Rattle.std.specs.Option.{option_or};
 ghost use Rattle.desk_types.specs.declared.call.Call.{Call};
 ghost use Rattle.desk_types.specs.declared.entry.Entry.{Entry};
 ghost use Rattle.desk_types.specs.declared.entry.Fault.{Fault};
 ghost use Rattle.desk_types.specs.declared.entry.Outcome.{Outcome};
 ghost use Rattle.desk_types.specs.declared.refusal.Refusal.{Refusal};
 ghost use Rattle.desk_types.specs.declared.reply.Reply.{Reply};
+ghost use Rattle.desk_types.specs.declared.reply.Spot.{Spot};
+ghost use Rattle.desk_types.specs.declared.rows.Placement.{Placement};
+ghost use Rattle.desk_types.specs.Changes.{link_clicked};
+ghost use Rattle.desk_types.specs.Judged.{first};
 ghost use Rattle.desk_types.specs.SettingsValue.{SettingsValue};
 ghost use Rattle.desk_types.specs.State.{State, empty, catalogue};
 ghost use Rattle.desk_types.specs.Step.{step, at_moment};
+ghost use Rattle.desk_types.specs.Tables.{placement_of};
 ghost use Rattle.desk_types.specs.Run.{run};
-ghost use Rattle.desk_types.specs.Page.{page};
-ghost use Rattle.desk_types.specs.Eligible.{entrants_for};
-ghost use Rattle.desk_types.specs.Serving.{Serves, Served, with_entry};
+ghost use Rattle.desk_types.specs.Serving.{Serves, AreServed, with_entry};
+ghost use Rattle.desk_types.specs.Sound.{IsSound, StandInOrder, StaysWithinBudgets};
 ghost use Rattle.desk_types.specs.Journal.{IsBefore, IsLegal, IsRise, is_full};
-ghost use Rattle.desk_types.specs.LedgerLaws.{StaysWithinBudgets, IsFairPage, IsRepeatedClick, IsLaterClick};
+ghost use Rattle.desk_types.specs.LedgerLaws.{IsPageAnswered, ChangesNoRow};
 
-/// From a state without rows, whatever entries come: for every campaign and day, what is spent and
-/// what is held together are at most the day's budget.
+/// A state without rows is sound, and a sound state stays so, whatever entries come and as time passes.
+pub fn sound_states_stay_sound()
+    ensures empty { (settings : SettingsValue) → IsSound (empty settings) }
+    ensures run { (S : State) (entries : List Entry) → IsSound S → IsSound (run S entries) }
+    ensures later { (S : State) (moment : ℕ) → IsSound S → IsSound (at_moment S moment) }
+{}
+
+/// Rows that stand in the order of their keys do so after any entries.
+pub fn rows_stay_in_order()
+    ensures { (S : State) (entries : List Entry) → StandInOrder S.tables → StandInOrder (run S entries).tables }
+{}
+
+/// From a sound state, whatever entries come, and at any later moment: for every campaign and day, what is spent and
+/// what is escrowed together are at most the day's budget.
 pub fn budgets_hold()
-    ensures { (settings : SettingsValue) (entries : List Entry) → StaysWithinBudgets (run (empty settings) entries) }
+    ensures { (S : State) (entries : List Entry) (moment : ℕ) →
+        IsSound S → StaysWithinBudgets (at_moment (run S entries) moment) }
 {}
 
-/// From a state without rows, whatever entries come: the page of each query has at most one ad of an
-/// account, the places 1 to its length in order, and for each the least price that keeps its place,
-/// which is at most its bid.
-pub fn pages_are_fair()
-    ensures { (settings : SettingsValue) (entries : List Entry) (query : List (List ℕ)) (n : ℕ) →
-        let S = run (empty settings) entries in IsFairPage S query n (page (entrants_for S query) n) }
+/// From a sound state, whatever entries come, a search that is answered with a page gives the first places to the best
+/// eligible ad of each account, in order, and puts a placement for each at the least price that keeps its place, which
+/// is at most its bid (Edelman, Ostrovsky and Schwarz 2007).
+pub fn pages_are_by_the_generalised_second_price()
+    ensures { (S : State) (entries : List Entry) (moment : ℕ) (text : List ℕ) (places : Option ℕ) (spots : List Spot) →
+        IsSound S → let reached = step (run S entries) moment (Call.Search text places) in
+        reached.reply ≡ Reply.Page spots → IsPageAnswered (at_moment (run S entries) moment) text places spots reached.state }
 {}
 
-/// A second click on a placement changes no row and gives the reply that the first one gave.
-pub fn second_click_changes_nothing()
-    ensures { (S : State) (first second placement : ℕ) → IsRepeatedClick S first second placement }
-{}
-
-/// A click on a placement that was clicked before, whatever entries came between, changes no row and
-/// gives the reply that the first one gave.
-pub fn later_click_changes_nothing()
-    ensures { (settings : SettingsValue) (before between : List Entry) (first second placement : ℕ) (link : List ℕ) →
-        let S = run (empty settings) before in (step S first (Call.Click placement)).reply ≡ Reply.Went link → IsLaterClick S first between second placement }
+/// A click behind an answered click on the same placement changes no row and goes to the same link: right behind it, and
+/// from a sound state whatever entries come between. So does a click at the deadline or later.
+pub fn clicks_settle_once()
+    ensures repeated { (S : State) (first second placement : ℕ) (link : List ℕ) →
+        let S1 = (step S first (Call.Click placement)).state in
+        (step S first (Call.Click placement)).reply ≡ Reply.Went link → ChangesNoRow S1 second placement link }
+    ensures later { (S : State) (between : List Entry) (first second placement : ℕ) (link : List ℕ) → IsSound S →
+        let S1 = (step S first (Call.Click placement)).state in
+        (step S first (Call.Click placement)).reply ≡ Reply.Went link → ChangesNoRow (run S1 between) second placement link }
+    ensures too_late { (S : State) (moment placement : ℕ) (p : Placement) → placement_of S.tables placement ≡ Option.Some p →
+        p.deadline ≤ (at_moment S moment).moment → ChangesNoRow S moment placement (link_clicked S.tables placement) }
 {}
 
 /// A refused call changes the moment alone.
@@ -49,26 +69,32 @@ pub fn refused_call_changes_the_moment_alone()
         (step S moment call).reply ≡ Reply.Refused refusal → (step S moment call).state ≡ at_moment S moment }
 {}
 
+/// The first refusal of two tables that are joined is that of the one, or else that of the other.
+pub fn joined_tables_give_the_first_refusal()
+    ensures { (rows more : List (Option Refusal)) → first (rows ++ more) ≡ option_or (first rows) (first more) }
+{}
+
 /// Of two states of one run with equal editions the catalogues are equal.
 pub fn equal_editions_have_equal_catalogues()
-    ensures { (S : State) (first more : List Entry) →
-        (run S (first ++ more)).edition ≡ (run S first).edition → catalogue (run S (first ++ more)) ≡ catalogue (run S first) }
+    ensures { (S : State) (entries more : List Entry) →
+        (run S (entries ++ more)).edition ≡ (run S entries).edition → catalogue (run S (entries ++ more)) ≡ catalogue (run S entries) }
 {}
 
 /// Calls that are served one after the other are served as one list: no call, one call, and two lists.
 pub fn calls_served_in_turn_are_served_as_one_list()
-    ensures none { (caller : ℕ) (opening : State) (seen : List Entry) → IsLegal opening.settings seen → Served caller opening seen [] [] seen }
+    ensures none { (caller : ℕ) (opening : State) (seen : List Entry) → IsLegal opening.settings seen → AreServed caller opening seen [] [] seen }
     ensures one { (caller : ℕ) (opening : State) (seen left : List Entry) (moment : ℕ) (call : Call) (result : Result Reply Fault) →
-        Serves caller opening seen moment call result left → Served caller opening seen ((moment, call) ∷ []) (result ∷ []) left }
+        Serves caller opening seen moment call result left → AreServed caller opening seen ((moment, call) ∷ []) (result ∷ []) left }
     ensures joined { (caller : ℕ) (opening : State) (seen between left : List Entry) (calls more : List (ℕ × Call)) (results others : List (Result Reply Fault)) →
-        Served caller opening seen calls results between → Served caller opening between more others left
-        → Served caller opening seen (calls ++ more) (results ++ others) left }
+        AreServed caller opening seen calls results between → AreServed caller opening between more others left
+        → AreServed caller opening seen (calls ++ more) (results ++ others) left }
 {}
 
-/// The empty list is a legal journal, and a legal journal that has room for a call is one with the
-/// entry of its answer, or of a fault whose count begins where the last one ended, or above.
+/// The empty list is a legal journal, and so are each prefix of a legal one, and a legal one that has room for a call
+/// with the entry of its answer, or of a fault whose count begins where the last one ended, or above.
 pub fn journals_stay_legal()
     ensures empty { (settings : SettingsValue) → IsLegal settings [] }
+    ensures prefix { (settings : SettingsValue) (entries more : List Entry) → IsLegal settings (entries ++ more) → IsLegal settings entries }
     ensures answered { (settings : SettingsValue) (seen : List Entry) (caller moment : ℕ) (call : Call) →
         IsLegal settings seen → is_full settings seen call ≡ false → IsLegal settings (with_entry caller seen moment call Outcome.Answered) }
     ensures faulted { (settings : SettingsValue) (seen : List Entry) (caller moment : ℕ) (call : Call) (before after : ℕ) →

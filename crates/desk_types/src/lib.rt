@@ -19,6 +19,7 @@ mod reply;
 mod rows;
 mod service;
 mod settings;
+mod tables;
 
 pub use ad::{Ad, better, wins_tie};
 pub use call::Call;
@@ -28,9 +29,10 @@ pub use fields::{is_headline, is_key};
 pub use link::LinkText;
 pub use refusal::{Detail, Field, Refusal};
 pub use reply::{Reply, Spot};
-pub use rows::{Account, BudgetSet, Campaign, Fate, Line, Negative, Placement};
+pub use rows::{Account, Batch, BudgetSet, Campaign, Fate, Line, Negative, Placement};
 pub use service::Service;
 pub use settings::Settings;
+pub use tables::{Change, Tables};
 
 #[cfg(test)]
 mod tests;

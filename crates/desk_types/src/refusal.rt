@@ -3,7 +3,7 @@
 ghost use Rattle.std.specs.Prelude.{◌≡◌};
 ghost use Rattle.desk_types.specs.Refusal.{number_of, name_of, detail_of, field_name};
 
-use match_types::PatternError;
+use match_types::PatternCause;
 use query_words::{NoMemory, Twin};
 
 /// Why a call is refused. Each has a number and a name, and some a detail.
@@ -21,8 +21,8 @@ pub enum Refusal {
     NoPlacement,
     /// 7: this field is out of its range or form.
     BadField(Field),
-    /// 8: the text is no pattern, for this cause, which is never want of memory.
-    BadPattern(PatternError),
+    /// 8: the text is no pattern, for this cause.
+    BadPattern(PatternCause),
     /// 9: the campaign has a line of the same pattern, of this number.
     LineThere(u64),
     /// 10: the campaign has a live negative of the same pattern, of this number.
@@ -68,7 +68,7 @@ pub enum Detail {
     /// The field.
     Field(Field),
     /// The cause for which a text is no pattern.
-    Cause(PatternError),
+    Cause(PatternCause),
     /// The number of the line or the negative that is there, or the bytes or words of the query.
     Number(u64),
 }

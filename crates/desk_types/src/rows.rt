@@ -113,6 +113,19 @@ pub enum Fate {
     Credited(u64, u64),
 }
 
+/// An import of lines, by which it is known when it comes again.
+#[derive(Clone, Copy, Debug, PartialEq, Eq)]
+pub struct Batch {
+    /// The account's number.
+    pub account: u64,
+    /// Its number within the account, which the advertiser chose.
+    pub number: u64,
+    /// The number of the first line that it made.
+    pub first: u64,
+    /// How many lines it made.
+    pub count: u64,
+}
+
 impl Twin for Account {
     fn twin(&self) -> Result<Self, NoMemory> {
         Ok(Account {
@@ -170,6 +183,12 @@ impl Twin for Placement {
 }
 
 impl Twin for Fate {
+    fn twin(&self) -> Result<Self, NoMemory> {
+        Ok(*self)
+    }
+}
+
+impl Twin for Batch {
     fn twin(&self) -> Result<Self, NoMemory> {
         Ok(*self)
     }

@@ -4,8 +4,8 @@ use Rattle.std.proofs.lemmas.Bool.{cond-true, cond-false, lt-ltb, le-ltb, ltb-fa
 use Rattle.query_words.specs.Words.{words_of}
 use Rattle.match_types.specs.declared.kind.MatchType.{MatchType}
 use Rattle.match_types.specs.declared.kind.MatchType.TheVariants.{Exact, Phrase, Broad}
-use Rattle.match_types.specs.declared.reading.PatternError.{PatternError}
-use Rattle.match_types.specs.declared.reading.PatternError.TheVariants.{TooLong, Minus, Unclosed}
+use Rattle.match_types.specs.declared.reading.PatternCause.{PatternCause}
+use Rattle.match_types.specs.declared.reading.PatternCause.TheVariants.{TooLong, Minus, Unclosed}
 use Rattle.match_types.specs.declared.reading.TheConstants.{PATTERN_BYTES, PATTERN_WORDS}
 use Rattle.match_types.specs.Marks.{trimmed, begins_with, minus, without_minus, kind_of, is_closed, between_marks, inside}
 use Rattle.match_types.specs.Pattern.{words_in, words_cause, refusal, negative_text, negative_refusal, IsPattern}
@@ -56,7 +56,7 @@ record IsAccepted (text : List ℕ) : Type 0 where
   closed : is_closed (trimmed text) ≡ true
   few : words_cause (words_in (trimmed text)) ≡ None
 
-passes : (test : Bool) (cause : PatternError) (later : Option PatternError) → cond test (Some cause) later ≡ None → (test ≡ false) × (later ≡ None)
+passes : (test : Bool) (cause : PatternCause) (later : Option PatternCause) → cond test (Some cause) later ≡ None → (test ≡ false) × (later ≡ None)
 passes true cause later e = cc
 passes false cause later e = (refl, e)
 

@@ -2,7 +2,7 @@
 ghost use Rattle.std.specs.Prelude.{◌≡◌, ◌≢◌, ◌≤◌, ◌↔◌, ℕ, List, None, Some, length, IsTrue, IfOk, OnOk, IfErr};
 ghost use Rattle.query_words.specs.Words.{words_of};
 ghost use Rattle.match_types.specs.Marks.{trimmed, kind_of};
-ghost use Rattle.match_types.specs.Pattern.{words_in, refusal, negative_text, negative_refusal, words_cause, IsPattern, IsSamePattern};
+ghost use Rattle.match_types.specs.Pattern.{cause_of, words_in, refusal, negative_text, negative_refusal, words_cause, IsPattern, IsSamePattern};
 ghost use Rattle.match_types.specs.Tests.{is_same_pattern};
 
 use crate::kind::MatchType;
@@ -41,7 +41,7 @@ impl Pattern {
     pub fn read(alloc: Global, text: &str) -> Result<Self, PatternError>
         ensures text { IfOk result (λ pattern. pattern ≡ trimmed text.now) }
         ensures accepted { OnOk result (refusal text.now ≡ None) }
-        ensures refused { IfErr result (λ cause. cause ≢ PatternError.NoMemory → refusal text.now ≡ Some cause) }
+        ensures refused { IfErr result (λ error. error ≢ PatternError.NoMemory → refusal text.now ≡ cause_of error) }
     {
         if text.len() > PATTERN_BYTES {
             return Err(PatternError::TooLong);
@@ -65,7 +65,7 @@ impl Pattern {
     pub fn read_negative(alloc: Global, text: &str) -> Result<Self, PatternError>
         ensures text { IfOk result (λ pattern. pattern ≡ negative_text text.now) }
         ensures accepted { OnOk result (negative_refusal text.now ≡ None) }
-        ensures refused { IfErr result (λ cause. cause ≢ PatternError.NoMemory → negative_refusal text.now ≡ Some cause) }
+        ensures refused { IfErr result (λ error. error ≢ PatternError.NoMemory → negative_refusal text.now ≡ cause_of error) }
     {
         let unsigned = drop_minus(trim_spaces(text));
         let length = text.len();
@@ -125,7 +125,7 @@ fn words_between(alloc: Global, inside: &str) -> Result<Words, PatternError>
     requires { length inside.now ≤ PATTERN_BYTES }
     ensures value { IfOk result (λ found. found ≡ words_of inside.now) }
     ensures accepted { OnOk result (words_cause (words_of inside.now) ≡ None) }
-    ensures refused { IfErr result (λ cause. cause ≢ PatternError.NoMemory → words_cause (words_of inside.now) ≡ Some cause) }
+    ensures refused { IfErr result (λ error. error ≢ PatternError.NoMemory → words_cause (words_of inside.now) ≡ cause_of error) }
 {
     match words(alloc, inside) {
         Ok(found) => few_words(found),
@@ -139,7 +139,7 @@ fn words_between(alloc: Global, inside: &str) -> Result<Words, PatternError>
 fn few_words(found: Words) -> Result<Words, PatternError>
     ensures value { IfOk result (λ kept. kept ≡ found) }
     ensures accepted { OnOk result (words_cause found ≡ None) }
-    ensures refused { IfErr result (λ cause. words_cause found ≡ Some cause) }
+    ensures refused { IfErr result (λ error. words_cause found ≡ cause_of error) }
 {
     match found.as_slice().len() {
         0 => Err(PatternError::NoWords),

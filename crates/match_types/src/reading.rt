@@ -1,6 +1,7 @@
 // The text of a pattern: its spaces, its marks and what stands between them.
 ghost use Rattle.std.specs.Prelude.{◌≡◌, ◌↔◌, false, IsNone, IfSome};
 ghost use Rattle.match_types.specs.Marks.{trimmed, begins_with, minus, without_minus, kind_of, inside, is_closed};
+ghost use Rattle.match_types.specs.Pattern.{cause_of};
 
 use crate::kind::MatchType;
 use thiserror::Error;
@@ -12,6 +13,21 @@ pub const PATTERN_BYTES: usize = 80;
 pub const PATTERN_WORDS: usize = 10;
 
 /// Why a text is no pattern, in the order in which it is judged.
+#[derive(Clone, Copy, Debug, PartialEq, Eq)]
+pub enum PatternCause {
+    /// The text has more than `PATTERN_BYTES` bytes, spaces at its ends among them.
+    TooLong,
+    /// The text without the spaces at its ends begins with `-`.
+    Minus,
+    /// It begins with `[` or `"` and has no `]` or second `"` at its end.
+    Unclosed,
+    /// It has no word.
+    NoWords,
+    /// It has more than `PATTERN_WORDS` words.
+    TooMany,
+}
+
+/// Why a text was not read as a pattern: for a cause, or for want of memory.
 #[derive(Clone, Copy, Debug, PartialEq, Eq, Error)]
 pub enum PatternError {
     /// The text has more than `PATTERN_BYTES` bytes, spaces at its ends among them.
@@ -32,6 +48,22 @@ pub enum PatternError {
     /// Memory was wanted.
     #[error("out of memory")]
     NoMemory,
+}
+
+impl PatternError {
+    /// The cause for which the text is no pattern; `None` where memory was wanted.
+    pub fn cause(&self) -> Option<PatternCause>
+        ensures { result ≡ cause_of self.now }
+    {
+        match self {
+            PatternError::TooLong => Some(PatternCause::TooLong),
+            PatternError::Minus => Some(PatternCause::Minus),
+            PatternError::Unclosed => Some(PatternCause::Unclosed),
+            PatternError::NoWords => Some(PatternCause::NoWords),
+            PatternError::TooMany => Some(PatternCause::TooMany),
+            PatternError::NoMemory => None,
+        }
+    }
 }
 
 /// The text without the spaces at its ends.

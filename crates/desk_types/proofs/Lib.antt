@@ -12,3 +12,5 @@ pub mod ServedInTurn
 pub mod Puts
 pub mod InOrder
 pub mod Numbering
+pub mod Budgets
+pub mod Costs

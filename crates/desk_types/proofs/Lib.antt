@@ -14,3 +14,12 @@ pub mod InOrder
 pub mod Numbering
 pub mod Budgets
 pub mod Costs
+pub mod Lawful
+pub mod Sound
+pub mod Accepting
+pub mod SecondPrice
+pub mod Editions
+pub mod Refusing
+pub mod Histories
+pub mod Clicks
+pub mod Prefixes

@@ -329,25 +329,32 @@ repeated S first second n link h =
     let done = over_step now n went.p went.found in
     no_row T second n done.p link done.found (over_later T.moment (max T.moment (min second MOMENT_MAX)) done.p (omega arith) done.over) (link_after now T n done ∙ went.goes)
 
-pub later : (S : State) (between : List Entry) (first second n : ℕ) (link : List ℕ) → IsSound S → (step S first (Click n)).reply ≡ Went link → ChangesNoRow (run (step S first (Click n)).state between) second n link
-unfolding step
-later S between first second n link sound h =
-    let now = at_moment S first in
-    let here = sound_later S first sound in
-    let went = went_there now n (placement_of now.tables n) link refl h in
-    let T : State = (answered now (Click n) (judged now (Click n))).state in
-    let done = over_step now n went.p went.found in
-    let known = found_all (λ (x : Placement). is_some (line_of now.tables x.account x.line) ≡ true) (λ (x : Placement). x.number == n) now.tables.placements done.before.0 here.named.placements done.before.1 in
-    let line = some_of (line_of now.tables done.before.0.account done.before.0.line) known.0 in
+start_done : (S T : State) (n : ℕ) (link : List ℕ) → IsSound S → IsOver S T n → link_clicked S.tables n ≡ link → IsDone T n link
+start_done S T n link sound done goes =
+    let known = found_all (λ (x : Placement). is_some (line_of S.tables x.account x.line) ≡ true) (λ (x : Placement). x.number == n) S.tables.placements done.before.0 sound.named.placements done.before.1 in
+    let line = some_of (line_of S.tables done.before.0.account done.before.0.line) known.0 in
     let line_is : line_of T.tables done.p.account done.p.line ≡ Some line.0 =
     (λ i. find (λ (l : Line). l.account == done.before.2 i && l.number == done.before.3 i) (done.lines i)) ∙ line.1 in
-    let start : IsDone T n link = record {
+    let now : link_clicked T.tables n ≡ line.0.link =
+    ap (λ o. unwrap_or (option_map (λ (p : Placement). link_of T.tables p.account p.line) o) []) done.found ∙ ap (λ o. unwrap_or (option_map (λ (l : Line). l.link) o) []) line_is in
+    record {
       p = done.p;
       found = done.found;
       over = done.over;
       line = line.0;
       line_is = line_is;
-      link_is = sym (ap (λ o. unwrap_or (option_map (λ (p : Placement). link_of T.tables p.account p.line) o) []) done.found ∙ ap (λ o. unwrap_or (option_map (λ (l : Line). l.link) o) []) line_is)
-          ∙ link_after now T n done ∙ went.goes;
-    } in
-    done_again (run T between) second n link (done_run T between n link (sound_step S first (Click n) sound) start)
+      link_is = sym now ∙ link_after S T n done ∙ goes;
+    }
+
+later_answered : (S : State) (between : List Entry) (second n : ℕ) (link : List ℕ) → IsSound S → (answered S (Click n) (judged S (Click n))).reply ≡ Went link → IsSound (answered S (Click n) (judged S (Click n))).state
+    → ChangesNoRow (run (answered S (Click n) (judged S (Click n))).state between) second n link
+later_answered S between second n link sound h after =
+    let went = went_there S n (placement_of S.tables n) link refl h in
+    let T : State = (answered S (Click n) (judged S (Click n))).state in
+    let start = start_done S T n link sound (over_step S n went.p went.found) went.goes in
+    done_again (run T between) second n link (done_run T between n link after start)
+
+pub later : (S : State) (between : List Entry) (first second n : ℕ) (link : List ℕ) → IsSound S → (step S first (Click n)).reply ≡ Went link → ChangesNoRow (run (step S first (Click n)).state between) second n link
+unfolding step
+later S between first second n link sound h =
+    later_answered (at_moment S first) between second n link (sound_later S first sound) h (sound_step S first (Click n) sound)

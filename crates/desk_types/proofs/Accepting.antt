@@ -1,45 +1,44 @@
 -- The changes of an accepted call are lawful.
-use Rattle.std.proofs.Common.{◌≡◌, ◌≢◌, ℕ, ◌+◌, ◌≤◌, Bool, true, false, not, ◌==◌, ◌&&◌, ◌||◌, cond, ◌⊎◌, inl, inr, List, [], ◌∷◌, ◌++◌, find, length, map, Option, None, Some, is_some, is_none, option_map, refl, sym, ap, subst, ◌∙◌, arith, length-append}
+use Rattle.std.proofs.Common.{◌≡◌, ◌≢◌, ℕ, ◌+◌, ◌≤◌, Bool, true, false, not, ◌==◌, ◌&&◌, ◌||◌, inl, inr, List, [], ◌∷◌, find, length, map, Option, None, Some, is_some, refl, sym, ap, subst, ◌∙◌, arith, length-append}
 use Rattle.std.specs.Prelude.{nat_le}
-use Rattle.std.specs.List.{All, count_by, list_any}
-use Rattle.std.proofs.lemmas.Bool.{cases_Bool, cond-true, cond-false, both_ways, and_parts, and_left, eqb-true, eq-eqb, ne_eqb}
+use Rattle.std.specs.List.{count_by}
+use Rattle.std.proofs.lemmas.Bool.{cases_Bool, cond-true, cond-false, both_ways, and_parts, and_left, eqb-true, ne_eqb}
 use Rattle.std.proofs.lemmas.Bool.Decides.{nat_tests}
 use Rattle.std.proofs.lemmas.Option.{same_Some}
 use Rattle.query_words.specs.Words.{words_of}
-use Rattle.desk_types.specs.declared.limits.TheConstants.{BID_MIN, BID_MAX, QUALITY_NEW}
+use Rattle.desk_types.specs.declared.limits.TheConstants.{BID_MIN, BID_MAX}
 use Rattle.desk_types.specs.declared.call.Call.{Call}
 use Rattle.desk_types.specs.declared.call.Call.TheVariants.{AddAccount, AddCampaign, AddLine, AddNegative, DropNegative, Search, Click}
 use Rattle.desk_types.specs.declared.refusal.Refusal.{Refusal}
 use Rattle.desk_types.specs.declared.rows.BudgetSet.{BudgetSet}
 use Rattle.desk_types.specs.declared.rows.Campaign.{Campaign}
-use Rattle.desk_types.specs.declared.rows.Fate.TheVariants.{Open, Settled}
+use Rattle.desk_types.specs.declared.rows.Fate.TheVariants.{Settled}
 use Rattle.desk_types.specs.declared.rows.Line.{Line}
 use Rattle.desk_types.specs.declared.rows.Negative.{Negative}
 use Rattle.desk_types.specs.declared.rows.Placement.{Placement}
-use Rattle.desk_types.specs.declared.tables.Change.{Change}
-use Rattle.desk_types.specs.declared.tables.Change.TheVariants.{PutAccount, PutCampaign, PutBudget, PutLine, PutNegative, PutPlacement, PutFate}
-use Rattle.desk_types.specs.AdValue.{AdValue, IsBid, IsInRange}
-use Rattle.desk_types.specs.Changes.{all_placed, changes, drop_of, line_made, live_again, negative_made, placed, placements_for, settlement}
+use Rattle.desk_types.specs.declared.tables.Change.TheVariants.{PutCampaign, PutBudget, PutLine, PutNegative, PutPlacement, PutFate}
+use Rattle.desk_types.specs.AdValue.{AdValue, IsBid}
+use Rattle.desk_types.specs.Changes.{all_placed, changes, drop_of, line_made, live_again, placed, placements_for, settlement}
 use Rattle.desk_types.specs.Day.{day_of}
-use Rattle.desk_types.specs.Eligible.{ad_of, entrants_for}
-use Rattle.desk_types.specs.Judged.{AskedLine, dropped_negative, first, is_dropped_like, is_within, judged, page_of, places_of, refusals, when}
-use Rattle.desk_types.specs.Keys.{budget_key, campaign_key, is_same_key, line_key, negative_key, placement_key}
-use Rattle.desk_types.specs.Money.{budget, escrowed, is_escrowed, is_set_by, is_shown_on, spent, used}
+use Rattle.desk_types.specs.Eligible.{entrants_for}
+use Rattle.desk_types.specs.Judged.{AskedLine, dropped_negative, first, is_within, judged, page_of, places_of, refusals, when}
+use Rattle.desk_types.specs.Keys.{campaign_key, is_same_key, line_key, negative_key, placement_key}
+use Rattle.desk_types.specs.Money.{budget, escrowed, is_escrowed, is_set_by, spent, used}
 use Rattle.desk_types.specs.Price.{price}
 use Rattle.desk_types.specs.Sound.{IsSound}
 use Rattle.desk_types.specs.State.{State}
 use Rattle.desk_types.specs.Tables.{campaign_of, campaigns_of, has_key, line_of, negative_of, placement_of, put, put_row}
 use Rattle.desk_types.proofs.Budgets.{budget-none}
-use Rattle.desk_types.proofs.Costs.{cost, cost-other, free-pays, used-costs}
+use Rattle.desk_types.proofs.Costs.{cost, cost-other, free-pays}
 use Rattle.desk_types.proofs.EachRow.{Each}
-use Rattle.desk_types.proofs.SecondPrice.{LinesInRange, apart_entrants, apart_page, entrant_line, fit_entrant, lines_in_range, page_among}
+use Rattle.desk_types.proofs.SecondPrice.{apart_entrants, apart_page, entrant_line, fit_entrant, lines_in_range, page_among}
 use Rattle.desk_types.proofs.InOrder.{Each-from_All}
 use Rattle.desk_types.proofs.Accounts.{AreApart}
-use Rattle.desk_types.proofs.Lawful.{AreLawful, IsLawful, IsOnward, IsPayable, changed, finds_one, finds_two, found_all, used-shown, within_used}
+use Rattle.desk_types.proofs.Lawful.{AreLawful, IsOnward, IsPayable, changed, finds_two, found_all, used-shown, within_used}
 use Rattle.desk_types.proofs.Members.{Has}
 use Rattle.desk_types.proofs.Numbering.{group_new, next_last, next_new}
 use Rattle.desk_types.proofs.PriceLemmas.{price-le-bid}
-use Rattle.desk_types.proofs.Puts.{FindsKey, find-put_same, has-find, key_same}
+use Rattle.desk_types.proofs.Puts.{find-put_same, has-find, key_same}
 use Rattle.desk_types.proofs.Sound.{sound_put}
 
 -- a table of which no refusal holds
@@ -97,15 +96,17 @@ lawful_campaign S account amount h =
     let test = λ (c : Campaign). c.account == account && c.number == number in
     let finds = finds_two campaign_key (λ (c : Campaign). c.account) (λ c. c.number) account number (λ x. refl) in
     let new = group_new campaign_key (λ (c : Campaign). c.account) (λ c. c.number) made S.tables.campaigns (λ x. refl) h.numbered.campaigns refl in
-    let unknown : is_some (campaign_of S.tables account number) ≡ false = sym (has-find campaign_key (account ∷ number ∷ []) test S.tables.campaigns finds) ∙ new in
-    (
+    let unknown : is_some (campaign_of S.tables account number) ≡ false = sym (has-find campaign_key (account ∷ number ∷ []) test S.tables.campaigns finds) ∙ new in (
       inr refl,
-      (record {
-        there = ap is_some (find-put_same campaign_key made test S.tables.campaigns finds);
-        covers = λ day later.
-            let none = budget-none S account number day (no_setting S account number day S.tables.budgets unknown (Each-from_All (λ (b : BudgetSet). is_some (campaign_of S.tables b.account b.campaign) ≡ true) S.tables.budgets h.named.budgets)) in
-            omega (arith, none, within_used S h.within_budgets account number day);
-      }, tt),
+      (
+        record {
+          there = ap is_some (find-put_same campaign_key made test S.tables.campaigns finds);
+          covers = λ day later.
+              let none = budget-none S account number day (no_setting S account number day S.tables.budgets unknown (Each-from_All (λ (b : BudgetSet). is_some (campaign_of S.tables b.account b.campaign) ≡ true) S.tables.budgets h.named.budgets)) in
+              omega (arith, none, within_used S h.within_budgets account number day);
+        },
+        tt,
+      ),
     )
 
 from_not : (b : Bool) → not b ≡ false → b ≡ true
@@ -122,8 +123,7 @@ lawful_line S account asked h within =
     let test = λ (l : Line). l.account == account && l.number == made.number in
     let finds = finds_two line_key (λ (l : Line). l.account) (λ l. l.number) account made.number (λ x. refl) in
     let new = group_new line_key (λ (l : Line). l.account) (λ l. l.number) made S.tables.lines (λ x. refl) h.numbered.lines refl in
-    let unknown : is_some (line_of S.tables account made.number) ≡ false = sym (has-find line_key (account ∷ made.number ∷ []) test S.tables.lines finds) ∙ new in
-    (
+    let unknown : is_some (line_of S.tables account made.number) ≡ false = sym (has-find line_key (account ∷ made.number ∷ []) test S.tables.lines finds) ∙ new in (
       record {
         in_range = (bid_in asked.bid within, (omega arith, omega arith));
         next = inr refl;
@@ -182,8 +182,7 @@ lawful_placed S R entered number (a ∷ ads) h moment next apart paid =
     let pays = paid a (inl refl) in
     let payable : IsPayable R p = record { next = next; unclicked = refl; line = pays.line; fits = omega (arith, pays.price_below, pays.fits) } in
     let longer : length (put_row placement_key p R.tables.placements) ≡ length R.tables.placements + 1 =
-    ap length (next_last placement_key (λ (x : Placement). x.number) p R.tables.placements (λ x. refl) h.numbered.placements next) ∙ length-append R.tables.placements (p ∷ []) in
-    (
+    ap length (next_last placement_key (λ (x : Placement). x.number) p R.tables.placements (λ x. refl) h.numbered.placements next) ∙ length-append R.tables.placements (p ∷ []) in (
       payable,
       lawful_placed S (changed R (PutPlacement p)) entered (number + 1) ads (sound_put R (PutPlacement p) h payable) moment (omega (arith, next, longer)) apart.1
           (λ b k. still_paid S R entered number a b h moment next (apart.0 b k) (paid b (inr k))),
@@ -197,13 +196,13 @@ lawful_search S text places h =
     let apart = apart_entrants S query in_range in
     lawful_placed S S entered (length S.tables.placements + 1) (page_of S text places) h refl refl (apart_page entered (places_of S places) apart)
     (λ a k.
-      let among = page_among entered (places_of S places) a apart k in
-      let fit = fit_entrant S query a in_range among in
-      record {
-        price_below = price-le-bid S.settings.reserve S.settings.floor entered a fit.reserve;
-        line = entrant_line S query a among;
-        fits = free-pays a.bid _ _ _ fit.paid;
-      })
+    let among = page_among entered (places_of S places) a apart k in
+    let fit = fit_entrant S query a in_range among in
+    record {
+      price_below = price-le-bid S.settings.reserve S.settings.floor entered a fit.reserve;
+      line = entrant_line S query a among;
+      fits = free-pays a.bid _ _ _ fit.paid;
+    })
 
 pub lawful_call : (S : State) (call : Call) → IsSound S → judged S call ≡ None → AreLawful S (changes S call)
 unfolding changes refusals

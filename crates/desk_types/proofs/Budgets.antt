@@ -1,17 +1,17 @@
 -- The budget of a day is that of the last setting up to it, and what it is after a setting is put.
-use Rattle.std.proofs.Common.{◌≡◌, ℕ, ◌+◌, ◌<◌, Bool, true, false, not, ◌==◌, ◌&&◌, ◌||◌, cond, ◌⊎◌, inl, inr, List, [], ◌∷◌, find, Option, None, Some, is_some, option_map, unwrap_or, refl, sym, ap, subst, ◌∙◌, arith}
+use Rattle.std.proofs.Common.{◌≡◌, ℕ, Bool, true, false, not, ◌==◌, ◌&&◌, ◌||◌, cond, ◌⊎◌, inl, inr, List, [], ◌∷◌, find, Option, None, Some, is_some, option_map, unwrap_or, refl, sym, ap, subst, ◌∙◌, arith}
 use Rattle.std.specs.Prelude.{nat_le, nat_lt}
 use Rattle.std.specs.List.{list_any}
 use Rattle.std.specs.Option.{option_or}
-use Rattle.std.proofs.lemmas.Bool.{cases_Bool, cond-true, cond-false, both_ways, and_parts, eqb-true}
+use Rattle.std.proofs.lemmas.Bool.{cases_Bool, cond-true, cond-false}
 use Rattle.std.proofs.lemmas.Bool.Decides.{nat_tests}
 use Rattle.desk_types.specs.declared.rows.BudgetSet.{BudgetSet}
 use Rattle.desk_types.specs.Day.{day_of}
 use Rattle.desk_types.specs.Keys.{budget_key, is_less_key, is_same_key}
-use Rattle.desk_types.specs.Money.{budget, is_latest, is_set_by}
+use Rattle.desk_types.specs.Money.{budget, is_set_by}
 use Rattle.desk_types.specs.State.{State}
 use Rattle.desk_types.specs.Tables.{has_key, inserted, put_row, replaced}
-use Rattle.desk_types.proofs.EachRow.{Each, find-agree, find-none}
+use Rattle.desk_types.proofs.EachRow.{Each, find-none}
 use Rattle.desk_types.proofs.Puts.{Ordered, put_new, put_there, same_key}
 
 -- the last setting of the campaign up to the day

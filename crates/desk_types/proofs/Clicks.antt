@@ -1,5 +1,5 @@
 -- Clicks on a placement that was clicked, or whose deadline has passed.
-use Rattle.std.proofs.Common.{◌≡◌, ℕ, ◌+◌, ◌≤◌, max, min, Bool, true, false, not, ◌==◌, ◌&&◌, cond, inl, inr, List, [], ◌∷◌, find, length, Option, None, Some, is_some, is_none, option_map, unwrap_or, refl, sym, ap, subst, ◌∙◌, arith}
+use Rattle.std.proofs.Common.{◌≡◌, ℕ, ◌+◌, ◌≤◌, max, min, true, false, ◌==◌, ◌&&◌, inl, inr, List, [], ◌∷◌, find, Option, None, Some, is_some, is_none, option_map, unwrap_or, refl, sym, ap, subst, ◌∙◌, arith}
 use Rattle.std.specs.Prelude.{nat_lt}
 use Rattle.std.proofs.lemmas.Bool.{cases_Bool, cond-true, cond-false, both_ways, and_parts, eqb-true, false_from_ne_true}
 use Rattle.std.proofs.lemmas.Bool.Decides.{nat_tests}
@@ -27,15 +27,15 @@ use Rattle.desk_types.specs.LedgerLaws.{ChangesNoRow}
 use Rattle.desk_types.specs.Money.{is_escrowed, is_open}
 use Rattle.desk_types.specs.Run.{after, run}
 use Rattle.desk_types.specs.Sound.{IsSound}
-use Rattle.desk_types.specs.State.{State, IsSameButForMoment}
-use Rattle.desk_types.specs.Step.{accepted, answered, at_moment, next_edition, step}
-use Rattle.desk_types.specs.Tables.{has_key, line_of, placement_of, put, put_all, put_fate, put_row}
+use Rattle.desk_types.specs.State.{State}
+use Rattle.desk_types.specs.Step.{accepted, answered, at_moment, step}
+use Rattle.desk_types.specs.Tables.{has_key, line_of, placement_of, put, put_all, put_fate}
 use Rattle.desk_types.proofs.Accepting.{lawful_call}
 use Rattle.desk_types.proofs.Costs.{escrowed_before}
 use Rattle.desk_types.proofs.Histories.{sound_after, sound_step}
 use Rattle.desk_types.proofs.Lawful.{AreLawful, GoesOnward, IsGoodLine, IsLawful, IsOnward, changed, finds_one, finds_two, found_all}
 use Rattle.desk_types.proofs.Numbering.{next_new}
-use Rattle.desk_types.proofs.Puts.{FindsKey, find-put, find-put_same, has-find, key_same, same_key}
+use Rattle.desk_types.proofs.Puts.{FindsKey, find-put, find-put_same, has-find, same_key}
 use Rattle.desk_types.proofs.Sound.{sound_later, sound_put}
 
 -- a click on a placement that is there is accepted
@@ -172,13 +172,13 @@ done_fate S number fate (Some q) n link is onward h =
             link_is = h.link_is;
           }
       | inr t ↦ record {
-          p = h.p;
-          found = now ∙ cond-false _ (Some r) (placement_of S.tables n) t ∙ h.found;
-          over = h.over;
-          line = h.line;
-          line_is = h.line_is;
-          link_is = h.link_is;
-        }
+        p = h.p;
+        found = now ∙ cond-false _ (Some r) (placement_of S.tables n) t ∙ h.found;
+        over = h.over;
+        line = h.line;
+        line_is = h.line_is;
+        link_is = h.link_is;
+      }
     ]
 
 done_shown : (S : State) (q : Placement) (n : ℕ) (link : List ℕ) → has_key placement_key (placement_key q) S.tables.placements ≡ false → IsDone S n link → IsDone (changed S (PutPlacement q)) n link
@@ -191,13 +191,13 @@ done_shown S q n link new h =
     elim (cases_Bool (is_same_key (placement_key q) (n ∷ []))) [
       | inl t ↦ absurd (both_ways _ new (subst (λ k. has_key placement_key k S.tables.placements ≡ true) (sym (same_key (placement_key q) (n ∷ []) t)) there))
       | inr t ↦ record {
-          p = h.p;
-          found = now ∙ cond-false _ (Some q) (placement_of S.tables n) t ∙ h.found;
-          over = h.over;
-          line = h.line;
-          line_is = h.line_is;
-          link_is = h.link_is;
-        }
+        p = h.p;
+        found = now ∙ cond-false _ (Some q) (placement_of S.tables n) t ∙ h.found;
+        over = h.over;
+        line = h.line;
+        line_is = h.line_is;
+        link_is = h.link_is;
+      }
     ]
 
 as_before : (S T : State) (n : ℕ) (link : List ℕ) → T.moment ≡ S.moment → T.tables.placements ≡ S.tables.placements → T.tables.lines ≡ S.tables.lines → IsDone S n link → IsDone T n link

@@ -1,26 +1,24 @@
 -- Sound states stay sound over all entries, and what that gives.
-use Rattle.std.proofs.Common.{◌≡◌, ◌≢◌, ℕ, ◌+◌, Bool, true, false, List, [], ◌∷◌, ◌++◌, length, map, Option, None, Some, refl, sym, ap, subst, ◌∙◌, arith, append_assoc, length-append}
+use Rattle.std.proofs.Common.{◌≡◌, ℕ, ◌+◌, List, [], ◌∷◌, ◌++◌, length, map, Option, None, Some, refl, sym, ap, subst, ◌∙◌, arith, append_assoc, length-append}
 use Rattle.std.proofs.lemmas.List.{append-nil}
 use Rattle.query_words.specs.Words.{words_of}
-use Rattle.std.specs.List.{All, Contains}
 use Rattle.desk_types.specs.declared.call.Call.{Call}
 use Rattle.desk_types.specs.declared.call.Call.TheVariants.{Search}
 use Rattle.desk_types.specs.declared.entry.Entry.{Entry}
 use Rattle.desk_types.specs.declared.entry.Outcome.{Outcome}
 use Rattle.desk_types.specs.declared.entry.Outcome.TheVariants.{Answered, Faulted}
 use Rattle.desk_types.specs.declared.refusal.Refusal.{Refusal}
-use Rattle.desk_types.specs.declared.reply.Reply.TheVariants.{Page, Refused}
+use Rattle.desk_types.specs.declared.reply.Reply.TheVariants.{Page}
 use Rattle.desk_types.specs.declared.reply.Spot.{Spot}
 use Rattle.desk_types.specs.declared.rows.Placement.{Placement}
 use Rattle.desk_types.specs.declared.tables.Change.TheVariants.{PutPlacement}
 use Rattle.desk_types.specs.declared.tables.Tables.{Tables}
 use Rattle.desk_types.specs.AdValue.{AdValue}
-use Rattle.desk_types.specs.Changes.{all_placed, changes, placed, placements_for, raises_edition, reply, spot_of}
+use Rattle.desk_types.specs.Changes.{all_placed, changes, placed, placements_for, raises_edition, reply}
 use Rattle.desk_types.specs.Eligible.{eligible_ads, entrants_for}
 use Rattle.desk_types.specs.Judged.{judged, page_of, places_of}
 use Rattle.desk_types.specs.Keys.{placement_key}
 use Rattle.desk_types.specs.LedgerLaws.{IsPageAnswered, IsSecondPricePage}
-use Rattle.desk_types.specs.Page.{page}
 use Rattle.desk_types.specs.Run.{after, run}
 use Rattle.desk_types.specs.Sound.{IsSound, RunFromOne, StaysWithinBudgets}
 use Rattle.desk_types.specs.State.{State}

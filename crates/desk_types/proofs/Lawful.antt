@@ -1,36 +1,31 @@
 -- Changes that keep a state sound.
-use Rattle.std.proofs.Common.{◌≡◌, ℕ, ◌+◌, ◌≤◌, Bool, true, false, ◌==◌, ◌&&◌, cond, ◌⊎◌, inl, inr, List, [], ◌∷◌, find, length, Option, None, Some, is_some, refl, sym, ap, subst, ◌∙◌, arith}
+use Rattle.std.proofs.Common.{◌≡◌, ℕ, ◌+◌, ◌≤◌, Bool, true, false, ◌==◌, ◌&&◌, ◌⊎◌, inl, inr, List, [], ◌∷◌, find, length, Option, None, Some, is_some, refl, sym, ap, subst, ◌∙◌, arith}
 use Rattle.std.specs.Prelude.{nat_le}
 use Rattle.std.specs.List.{All, sum_by}
-use Rattle.std.proofs.lemmas.Bool.{cases_Bool, cond-true, cond-false, both_ways, and_parts, and_from, eqb-true, eq-eqb}
+use Rattle.std.proofs.lemmas.Bool.{cases_Bool, cond-true, cond-false, and_parts, eqb-true}
 use Rattle.std.proofs.lemmas.Bool.Decides.{nat_tests}
-use Rattle.std.proofs.lemmas.List.Elements.{All-weaker}
 use Rattle.std.proofs.lemmas.Option.{same_Some}
-use Rattle.desk_types.specs.declared.rows.Account.{Account}
 use Rattle.desk_types.specs.declared.rows.BudgetSet.{BudgetSet}
-use Rattle.desk_types.specs.declared.rows.Campaign.{Campaign}
 use Rattle.desk_types.specs.declared.rows.Fate.{Fate}
 use Rattle.desk_types.specs.declared.rows.Fate.TheVariants.{Open, Settled, Credited}
 use Rattle.desk_types.specs.declared.rows.Line.{Line}
-use Rattle.desk_types.specs.declared.rows.Negative.{Negative}
 use Rattle.desk_types.specs.declared.rows.Placement.{Placement}
 use Rattle.desk_types.specs.declared.tables.Change.{Change}
 use Rattle.desk_types.specs.declared.tables.Change.TheVariants.{PutAccount, PutCampaign, PutBudget, PutLine, PutNegative, PutPlacement, PutBatch, PutFate}
-use Rattle.desk_types.specs.declared.tables.Tables.{Tables}
 use Rattle.desk_types.specs.AdValue.{IsInRange}
 use Rattle.desk_types.specs.Day.{day_of}
 use Rattle.desk_types.specs.Eligible.{ad_of}
 use Rattle.desk_types.specs.Keys.{account_key, budget_key, campaign_key, is_same_key, line_key, negative_key, placement_key}
-use Rattle.desk_types.specs.Money.{budget, escrowed, is_escrowed, is_set_by, is_shown_on, spent, used}
-use Rattle.desk_types.specs.Sound.{AreNumbered, IsSound, NamesAreThere, StaysWithinBudgets}
+use Rattle.desk_types.specs.Money.{budget, escrowed, is_escrowed, is_shown_on, spent, used}
+use Rattle.desk_types.specs.Sound.{IsSound, StaysWithinBudgets}
 use Rattle.desk_types.specs.State.{State}
-use Rattle.desk_types.specs.Tables.{campaign_of, has_key, line_of, placement_of, put, put_all, put_fate, put_row}
+use Rattle.desk_types.specs.Tables.{campaign_of, has_key, line_of, placement_of, put, put_row}
 use Rattle.desk_types.proofs.Budgets.{budget-put}
 use Rattle.desk_types.proofs.Costs.{cost, cost-credited, cost-open, cost-other, cost-settled, free-holds, free-within, used-costs}
 use Rattle.desk_types.proofs.EachRow.{All-from_Each, Each}
-use Rattle.desk_types.proofs.InOrder.{Each-from_All, Ordered-from, StandInOrder-put}
-use Rattle.desk_types.proofs.Numbering.{IsThereOrNext, groups-put, numbers-put}
-use Rattle.desk_types.proofs.Puts.{Each-put, FindsKey, Ordered, find-put, has-find, stays_there, sum-put_new, sum-put_there}
+use Rattle.desk_types.proofs.InOrder.{Each-from_All, Ordered-from}
+use Rattle.desk_types.proofs.Numbering.{IsThereOrNext}
+use Rattle.desk_types.proofs.Puts.{Each-put, FindsKey, Ordered, sum-put_new, sum-put_there}
 
 -- the state with this change put
 abbrev pub changed : State → Change → State

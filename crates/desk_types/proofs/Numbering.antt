@@ -1,7 +1,7 @@
 -- Numbers run from 1 without a gap, where a row that is put is there already or has the next number.
-use Rattle.std.proofs.Common.{◌≡◌, ℕ, suc, zero, ◌+◌, ◌≤◌, ◌<◌, Bool, true, false, ◌==◌, ◌||◌, cond, ◌⊎◌, inl, inr, List, [], ◌∷◌, ◌++◌, filter, length, map, refl, sym, ap, subst, ◌∙◌, arith, length-append}
+use Rattle.std.proofs.Common.{◌≡◌, ℕ, suc, zero, ◌+◌, ◌<◌, Bool, true, false, ◌==◌, ◌||◌, cond, ◌⊎◌, inl, inr, List, [], ◌∷◌, ◌++◌, filter, length, map, refl, sym, ap, subst, ◌∙◌, arith, length-append}
 use Rattle.std.specs.List.{count_by, range_with_len}
-use Rattle.std.proofs.lemmas.Bool.{cases_Bool, cond-true, cond-false, both_ways, eqb-true, eq-eqb, and_parts}
+use Rattle.std.proofs.lemmas.Bool.{cases_Bool, cond-true, cond-false, both_ways, eqb-true, eq-eqb}
 use Rattle.std.proofs.lemmas.Bool.Decides.{nat_tests}
 use Rattle.std.proofs.lemmas.List.{length-map, map-append}
 use Rattle.std.proofs.lemmas.List.Sums.{sum_by-cons}
@@ -106,8 +106,7 @@ numbers_below test number (r ∷ rows) a zero run =
 numbers_below test number (r ∷ rows) a (suc n) run =
     elim (cases_Bool (test r)) [
       | inl t ↦
-          let e = cons_parts (number r) a (map number (filter test rows)) (range_with_len (a + 1) n) (sym (ap (map number) (cond-true (test r) (r ∷ filter test rows) (filter test rows) t)) ∙ run) in
-          (
+          let e = cons_parts (number r) a (map number (filter test rows)) (range_with_len (a + 1) n) (sym (ap (map number) (cond-true (test r) (r ∷ filter test rows) (filter test rows) t)) ∙ run) in (
             λ is. omega (arith, e.0),
             Each-mono (λ x. test x ≡ true → number x < a + 1 + n) (λ x. test x ≡ true → number x < a + suc n) rows (λ x k is. omega (arith, k is)) (numbers_below test number rows (a + 1) n e.1),
           )
@@ -164,9 +163,9 @@ below_next {A} key group number row rows is runs next =
     let count : n ≡ count_by test rows = length-map (filter test rows) number ∙ length_kept test rows in
     Each-mono (λ x. test x ≡ true → number x < 1 + n) (λ x. test x ≡ true → is_less_key (key x) (key row) ≡ true) rows
     (λ x low same.
-      let group_is = eqb-true (group x) (group row) same in
-      let lower = lower_key (group row) (number x) (number row) (omega (arith, low same, count, next)) in
-      subst (λ k. is_less_key k (key row) ≡ true) (sym (is x ∙ ap (λ g. g ∷ number x ∷ []) group_is)) (subst (λ k. is_less_key (group row ∷ number x ∷ []) k ≡ true) (sym (is row)) lower))
+    let group_is = eqb-true (group x) (group row) same in
+    let lower = lower_key (group row) (number x) (number row) (omega (arith, low same, count, next)) in
+    subst (λ k. is_less_key k (key row) ≡ true) (sym (is x ∙ ap (λ g. g ∷ number x ∷ []) group_is)) (subst (λ k. is_less_key (group row ∷ number x ∷ []) k ≡ true) (sym (is row)) lower))
     (numbers_below test number rows 1 n (runs (group row)))
 
 groups_there : {A : Type 0} (key : A → List ℕ) (group number : A → ℕ) (row : A) (rows : List A) → IsKeyOf key group number → RunInGroups group number rows
@@ -229,8 +228,8 @@ next_above key number row rows is run next =
     let count = length-map rows number in
     Each-mono (λ x. number x < 1 + length (map number rows)) (λ x. is_less_key (key x) (key row) ≡ true) rows
     (λ x low.
-      let lower = lower_number (number x) (number row) (omega (arith, low, count, next)) in
-      subst (λ k. is_less_key k (key row) ≡ true) (sym (is x)) (subst (λ k. is_less_key (number x ∷ []) k ≡ true) (sym (is row)) lower))
+    let lower = lower_number (number x) (number row) (omega (arith, low, count, next)) in
+    subst (λ k. is_less_key k (key row) ≡ true) (sym (is x)) (subst (λ k. is_less_key (number x ∷ []) k ≡ true) (sym (is row)) lower))
     (all_below number rows 1 (length (map number rows)) run)
 
 -- the next row goes last

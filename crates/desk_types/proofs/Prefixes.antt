@@ -1,12 +1,12 @@
 -- A prefix of a legal journal is one.
-use Rattle.std.proofs.Common.{◌≡◌, ℕ, zero, suc, ◌+◌, ◌<◌, ◌≤◌, ◌==◌, List, [], ◌∷◌, ◌++◌, filter, length, map, refl, sym, ap, subst, ◌∙◌, arith, length-append}
+use Rattle.std.proofs.Common.{◌≡◌, ℕ, zero, suc, ◌+◌, ◌<◌, ◌==◌, List, [], ◌∷◌, ◌++◌, filter, length, map, refl, sym, ap, subst, ◌∙◌, arith, length-append}
 use Rattle.std.specs.Prelude.{slice_index_or}
-use Rattle.std.specs.List.{All, AllPairs, count_by, range_with_len, sum_by}
+use Rattle.std.specs.List.{range_with_len}
 use Rattle.std.proofs.lemmas.List.{length-map, map-append}
 use Rattle.std.proofs.lemmas.List.Elements.{filter-append}
 use Rattle.std.proofs.lemmas.List.Sums.{sum_by-append}
 use Rattle.desk_types.specs.declared.entry.Entry.{Entry}
-use Rattle.desk_types.specs.Journal.{HasRise, IsBefore, IsLegal, bytes_of, entries_of}
+use Rattle.desk_types.specs.Journal.{HasRise, IsBefore, IsLegal, entries_of}
 use Rattle.desk_types.specs.SettingsValue.{SettingsValue}
 use Rattle.desk_types.specs.Weight.{weight}
 use Rattle.desk_types.proofs.Legality.{numbers}

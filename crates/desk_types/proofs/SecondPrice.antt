@@ -1,5 +1,5 @@
 -- Pages of the best eligible ads, at the least prices that keep their places.
-use Rattle.std.proofs.Common.{◌≡◌, ℕ, zero, suc, ◌≤◌, Bool, true, not, ◌==◌, ◌&&◌, inl, inr, find, is_some, Option, Some, ap, ◌∙◌, List, [], ◌∷◌, map, filter, take, refl, sym, subst, arith}
+use Rattle.std.proofs.Common.{◌≡◌, ℕ, zero, suc, ◌≤◌, true, not, ◌==◌, ◌&&◌, inl, inr, find, is_some, Some, ap, ◌∙◌, List, [], ◌∷◌, map, filter, take, refl, sym, subst, arith}
 use Rattle.std.specs.Prelude.{int_le, pos}
 use Rattle.std.specs.List.{All}
 use Rattle.std.proofs.lemmas.Bool.{cases_Bool, cond-true, cond-false, and_parts, and_from, both_ways, eq-eqb}
@@ -12,12 +12,10 @@ use Rattle.desk_types.specs.Money.{free}
 use Rattle.desk_types.specs.Order.{better}
 use Rattle.desk_types.specs.Page.{page}
 use Rattle.desk_types.specs.State.{State}
-use Rattle.desk_types.proofs.Accounts.{AreApart, AreOfDifferentAccounts-from, IsRanking-of, ranking_of, one_of_account}
+use Rattle.desk_types.proofs.Accounts.{AreApart, IsRanking-of, ranking_of, one_of_account}
 use Rattle.desk_types.proofs.Entrants.{entrant_of, entrants-apart}
-use Rattle.desk_types.proofs.Members.{Has, Has-from_Contains, SameCounts-Has, SameCounts-sym}
+use Rattle.desk_types.proofs.Members.{Has, SameCounts-Has, SameCounts-sym}
 use Rattle.desk_types.proofs.OrderLemmas.{better-irreflexive}
-use Rattle.desk_types.proofs.Pages.{page-first_places}
-use Rattle.desk_types.proofs.PriceLemmas.{price-least_price}
 use Rattle.desk_types.proofs.Ranking.{IsRanked, page-ranking}
 use Rattle.desk_types.specs.Sound.{IsSound}
 use Rattle.desk_types.specs.Tables.{line_of}

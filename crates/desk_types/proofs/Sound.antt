@@ -1,5 +1,5 @@
 -- Sound states stay sound, change by change, and so call by call.
-use Rattle.std.proofs.Common.{◌≡◌, ℕ, ◌+◌, ◌≤◌, max, min, Bool, true, false, ◌==◌, ◌&&◌, ◌⊎◌, inl, inr, List, [], ◌∷◌, length, map, Option, None, Some, is_some, refl, sym, ap, subst, ◌∙◌, arith}
+use Rattle.std.proofs.Common.{◌≡◌, ℕ, max, min, true, ◌==◌, inl, inr, List, [], ◌∷◌, Option, None, Some, is_some, refl, sym, ap, subst, ◌∙◌, arith}
 use Rattle.std.specs.List.{All}
 use Rattle.std.proofs.lemmas.Bool.{eqb-true}
 use Rattle.std.proofs.lemmas.List.Elements.{All-nil, All-weaker}
@@ -14,7 +14,7 @@ use Rattle.desk_types.specs.declared.tables.Change.TheVariants.{PutAccount, PutC
 use Rattle.desk_types.specs.AdValue.{IsInRange}
 use Rattle.desk_types.specs.Eligible.{ad_of}
 use Rattle.desk_types.specs.Keys.{account_key, batch_key, budget_key, campaign_key, line_key, negative_key, placement_key}
-use Rattle.desk_types.specs.Money.{budget, escrowed, spent, used}
+use Rattle.desk_types.specs.Money.{budget, escrowed, spent}
 use Rattle.desk_types.specs.SettingsValue.{SettingsValue}
 use Rattle.desk_types.specs.Sound.{AreInOrder, IsSound}
 use Rattle.desk_types.specs.State.{State, empty}
@@ -22,7 +22,7 @@ use Rattle.desk_types.specs.Step.{at_moment}
 use Rattle.desk_types.specs.Tables.{campaign_of, has_key, line_of, no_rows, placement_of, put, put_all, put_fate, put_row}
 use Rattle.desk_types.proofs.Costs.{cost, cost-later, sum_by-less, used-costs}
 use Rattle.desk_types.proofs.InOrder.{Ordered-from, in_order-put, StandInOrder-put}
-use Rattle.desk_types.proofs.Lawful.{All-put, AreLawful, GoesOnward, IsCovered, IsGoodLine, IsLawful, IsOnward, IsPayable, changed, finds_one, finds_two, found_all, used-onward, used_within, within-budget, within-shown, within_used}
+use Rattle.desk_types.proofs.Lawful.{All-put, AreLawful, IsLawful, IsOnward, changed, finds_one, finds_two, found_all, used-onward, used_within, within-budget, within-shown, within_used}
 use Rattle.desk_types.proofs.Numbering.{groups-put, next_new, numbers-put}
 use Rattle.desk_types.proofs.Puts.{FindsKey, has-find, stays_there}
 

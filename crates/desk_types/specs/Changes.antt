@@ -126,7 +126,7 @@ changes S (AddCampaign account key budget) =
     ∷ []
 changes S (AddLine account key campaign bid pattern headline link) =
     PutLine (line_made S.tables account
-        (record { campaign = campaign; bid = bid; pattern = pattern; headline = headline; link = link })) ∷ []
+    (record { campaign = campaign; bid = bid; pattern = pattern; headline = headline; link = link })) ∷ []
 changes S (AddNegative account key campaign pattern) =
     PutNegative (negative_made S.tables account campaign pattern) ∷ []
 changes S (DropNegative account key negative) = drop_of (negative_of S.tables account negative)

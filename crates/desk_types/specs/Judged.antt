@@ -121,7 +121,7 @@ negative_rows T account campaign pattern =
     option_map BadPattern (negative_refusal pattern)
     ∷ option_map (λ n. NegativeThere n.number) (live_negative T account campaign pattern)
     ∷ when (is_none (dropped_negative T account campaign pattern) && nat_le NEGATIVES_MAX (negatives_of T account))
-        NegativesFull
+    NegativesFull
     ∷ []
 
 -- the refusals of a call, in order
@@ -138,7 +138,7 @@ refusals S (AddCampaign account key budget) =
 refusals S (AddLine account key campaign bid pattern headline link) =
     owner_rows S.tables account key
     ++ line_rows S.tables account
-        (record { campaign = campaign; bid = bid; pattern = pattern; headline = headline; link = link })
+    (record { campaign = campaign; bid = bid; pattern = pattern; headline = headline; link = link })
 refusals S (AddNegative account key campaign pattern) =
     owner_rows S.tables account key
     ++ campaign_row S.tables account campaign

@@ -1,20 +1,18 @@
 -- What holds of the ledger, in the words of the subject.
-use Rattle.std.specs.Prelude.{◌≡◌, ℕ, ◌+◌, ◌≤◌, List, ◌++◌, length, map, Option, Contains}
+use Rattle.std.specs.Prelude.{◌≡◌, ℕ, ◌+◌, List, ◌++◌, length, map, Option, Contains}
 use Rattle.query_words.specs.Words.{words_of}
 use Rattle.desk_types.specs.declared.call.Call.TheVariants.{Click}
-use Rattle.desk_types.specs.declared.entry.Entry.{Entry}
-use Rattle.desk_types.specs.declared.reply.Reply.TheVariants.{Page, Went}
+use Rattle.desk_types.specs.declared.reply.Reply.TheVariants.{Went}
 use Rattle.desk_types.specs.declared.reply.Spot.{Spot}
 use Rattle.desk_types.specs.declared.rows.Placement.{Placement}
 use Rattle.desk_types.specs.AdValue.{AdValue}
-use Rattle.desk_types.specs.Changes.{all_placed, link_clicked, spot_of}
+use Rattle.desk_types.specs.Changes.{all_placed, spot_of}
 use Rattle.desk_types.specs.Eligible.{eligible_ads, entrants_for}
 use Rattle.desk_types.specs.Judged.{places_of}
 use Rattle.desk_types.specs.Laws.{AreBestOfAccounts, AreFirstPlaces, IsLeastPrice}
 use Rattle.desk_types.specs.Price.{price}
-use Rattle.desk_types.specs.Run.{run}
 use Rattle.desk_types.specs.State.{State, IsSameButForMoment}
-use Rattle.desk_types.specs.Step.{Reached, step}
+use Rattle.desk_types.specs.Step.{step}
 
 -- a search's page by the generalised second price: it is answered in the state S, `ads` are shown, and `new` is put
 pub record IsSecondPricePage (S : State) (text : List ℕ) (places : Option ℕ) (ads : List AdValue) (new : List Placement) : Type 0 where

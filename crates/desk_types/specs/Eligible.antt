@@ -29,7 +29,9 @@ has_active_campaign S l = list_any (λ c. c.account == l.account && (c.number ==
 
 -- whether a live negative of its campaign matches the query
 abbrev pub is_kept_out : State → List (List ℕ) → Line → Bool
-is_kept_out S query l = list_any (λ n. n.account == l.account && (n.campaign == l.campaign && (n.live && is_matched n.pattern query))) S.tables.negatives
+is_kept_out S query l =
+    list_any (λ n. n.account == l.account && (n.campaign == l.campaign && (n.live && is_matched n.pattern query)))
+    S.tables.negatives
 
 -- whether its bid is at least the reserve
 abbrev pub meets_reserve : State → Line → Bool
@@ -46,8 +48,8 @@ can_pay S l = int_le (pos l.bid) (free S l.account l.campaign (day_of S.moment))
 -- whether a line competes for the words of a query, its campaign's money aside
 unfoldable pub is_candidate : State → List (List ℕ) → Line → Bool
 is_candidate S query l =
-    has_active_account S l && (has_active_campaign S l && (l.on && (is_matched l.pattern query && (not (is_kept_out S query l)
-    && (meets_reserve S l && meets_floor S l)))))
+    has_active_account S l && (has_active_campaign S l && (l.on && (is_matched l.pattern query
+    && (not (is_kept_out S query l) && (meets_reserve S l && meets_floor S l)))))
 
 -- whether a line competes for the words of a query: it is a candidate, and its campaign can pay
 abbrev pub is_eligible : State → List (List ℕ) → Line → Bool

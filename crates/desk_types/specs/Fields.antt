@@ -13,7 +13,9 @@ is_key text = nat_le KEY_BYTES_MIN (length text) && (nat_le (length text) KEY_BY
 
 -- a headline: 1 to 90 bytes, none of them a control character of ASCII
 unfoldable pub is_headline : List ℕ → Bool
-is_headline text = nat_le 1 (length text) && (nat_le (length text) HEADLINE_BYTES_MAX && list_all (λ byte. nat_le 0x20 byte && not (byte == 0x7F)) text)
+is_headline text =
+    nat_le 1 (length text) && (nat_le (length text) HEADLINE_BYTES_MAX
+    && list_all (λ byte. nat_le 0x20 byte && not (byte == 0x7F)) text)
 
 -- a text that begins with a scheme of the web
 abbrev pub has_scheme : List ℕ → Bool

@@ -33,7 +33,8 @@ IsBefore (Faulted before after) Answered = ⊤
 
 -- the list may be a journal under these settings
 pub record IsLegal (settings : SettingsValue) (entries : List Entry) : Type 0 where
-  pub numbered : (caller : ℕ) → map (λ e. e.number) (filter (λ e. e.caller == caller) entries) ≡ range_with_len 1 (entries_of caller entries)
+  pub numbered : (caller : ℕ) →
+      map (λ e. e.number) (filter (λ e. e.caller == caller) entries) ≡ range_with_len 1 (entries_of caller entries)
   pub faults_rise : All (λ e. HasRise e.outcome) entries
   pub faults_in_order : AllPairs (λ earlier later. IsBefore earlier.outcome later.outcome) entries
   pub entries_fit : length entries ≤ settings.journal
@@ -41,4 +42,5 @@ pub record IsLegal (settings : SettingsValue) (entries : List Entry) : Type 0 wh
 
 -- whether a journal has no room for the call
 unfoldable pub is_full : SettingsValue → List Entry → Call → Bool
-is_full settings entries call = nat_le settings.journal (length entries) || nat_lt settings.journal_bytes (bytes_of entries + weight call)
+is_full settings entries call =
+    nat_le settings.journal (length entries) || nat_lt settings.journal_bytes (bytes_of entries + weight call)

@@ -31,4 +31,5 @@ pub record IsLeastPrice (reserve floor : ℕ) (entered : List AdValue) (a : AdVa
   pub at_least_reserve : reserve ≤ price
   pub meets_floor : floor ≤ price * a.quality
   pub keeps_place : place (with_bid_of entered a price) (with_bid a price) ≡ place entered a
-  pub least : (bid : ℕ) → reserve ≤ bid → floor ≤ bid * a.quality → place (with_bid_of entered a bid) (with_bid a bid) ≡ place entered a → price ≤ bid
+  pub least : (bid : ℕ) → reserve ≤ bid → floor ≤ bid * a.quality →
+      place (with_bid_of entered a bid) (with_bid a bid) ≡ place entered a → price ≤ bid

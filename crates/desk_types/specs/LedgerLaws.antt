@@ -15,7 +15,8 @@ use Rattle.desk_types.specs.State.{State, IsSameButForMoment}
 use Rattle.desk_types.specs.Step.{step}
 
 -- a search's page by the generalised second price: it is answered in the state S, `ads` are shown, and `new` is put
-pub record IsSecondPricePage (S : State) (text : List ℕ) (places : Option ℕ) (ads : List AdValue) (new : List Placement) : Type 0 where
+pub record IsSecondPricePage
+    (S : State) (text : List ℕ) (places : Option ℕ) (ads : List AdValue) (new : List Placement) : Type 0 where
   pub best_of_accounts : AreBestOfAccounts (eligible_ads S (words_of text)) (entrants_for S (words_of text))
   pub first_places : AreFirstPlaces (entrants_for S (words_of text)) (places_of S places) ads
   pub placed : new ≡ all_placed S (entrants_for S (words_of text)) (length S.tables.placements + 1) ads

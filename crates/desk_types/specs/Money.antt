@@ -14,11 +14,15 @@ is_set_by account campaign day b = b.account == account && (b.campaign == campai
 
 -- whether no setting of the campaign up to the day is of a later day than this one
 abbrev pub is_latest : List BudgetSet → ℕ → ℕ → ℕ → BudgetSet → Bool
-is_latest budgets account campaign day b = not (list_any (λ other. is_set_by account campaign day other && nat_lt (day_of b.at) (day_of other.at)) budgets)
+is_latest budgets account campaign day b =
+    not (list_any (λ other. is_set_by account campaign day other && nat_lt (day_of b.at) (day_of other.at)) budgets)
 
 -- the budget: the amount of the campaign's setting of the latest day up to this one, or 0 where it has none
 unfoldable pub budget : State → ℕ → ℕ → ℕ → ℕ
-budget S account campaign day = unwrap_or (option_map (λ b. b.amount) (find (λ b. is_set_by account campaign day b && is_latest S.tables.budgets account campaign day b) S.tables.budgets)) 0
+budget S account campaign day =
+    let bs = S.tables.budgets in
+    unwrap_or (option_map (λ b. b.amount)
+    (find (λ b. is_set_by account campaign day b && is_latest bs account campaign day b) bs)) 0
 
 -- whether a placement is of this campaign and was shown on this day
 abbrev pub is_shown_on : ℕ → ℕ → ℕ → Placement → Bool
@@ -41,11 +45,14 @@ is_escrowed moment p = is_open p.fate && nat_lt moment p.deadline
 
 -- the prices that clicks settled, of the placements of the campaign that were shown on the day
 unfoldable pub spent : State → ℕ → ℕ → ℕ → ℕ
-spent S account campaign day = sum_by (λ p. p.price) (filter (λ p. is_shown_on account campaign day p && is_spent p.fate) S.tables.placements)
+spent S account campaign day =
+    sum_by (λ p. p.price) (filter (λ p. is_shown_on account campaign day p && is_spent p.fate) S.tables.placements)
 
 -- the prices that are kept for clicks that may still come
 unfoldable pub escrowed : State → ℕ → ℕ → ℕ → ℕ
-escrowed S account campaign day = sum_by (λ p. p.price) (filter (λ p. is_shown_on account campaign day p && is_escrowed S.moment p) S.tables.placements)
+escrowed S account campaign day =
+    sum_by (λ p. p.price)
+    (filter (λ p. is_shown_on account campaign day p && is_escrowed S.moment p) S.tables.placements)
 
 -- what is spent or escrowed
 abbrev pub used : State → ℕ → ℕ → ℕ → ℕ
@@ -53,4 +60,5 @@ used S account campaign day = spent S account campaign day + escrowed S account 
 
 -- what is left of the budget, a number that could be negative
 abbrev pub free : State → ℕ → ℕ → ℕ → ℤ
-free S account campaign day = (pos (budget S account campaign day) -ℤ pos (spent S account campaign day)) -ℤ pos (escrowed S account campaign day)
+free S account campaign day =
+    (pos (budget S account campaign day) -ℤ pos (spent S account campaign day)) -ℤ pos (escrowed S account campaign day)

@@ -13,7 +13,8 @@ keeps_place entered a bid = place (with_bid_of entered a bid) (with_bid a bid) =
 
 -- whether a bid is at least the reserve, has a score of at least the floor and keeps a's place
 unfoldable pub is_enough : ℕ → ℕ → List AdValue → AdValue → ℕ → Bool
-is_enough reserve floor entered a bid = nat_le reserve bid && (nat_le floor (bid * a.quality) && keeps_place entered a bid)
+is_enough reserve floor entered a bid =
+    nat_le reserve bid && (nat_le floor (bid * a.quality) && keeps_place entered a bid)
 
 -- the first number that passes the test, tried one after another from `from` on, and the last one where no earlier does
 unfoldable pub first_passing : (ℕ → Bool) → ℕ → ℕ → ℕ

@@ -19,20 +19,26 @@ AreOfOthers caller entries = All (λ e. e.caller ≢ caller) entries
 -- the entries with the caller's next entry
 abbrev pub with_entry : ℕ → List Entry → ℕ → Call → Outcome → List Entry
 with_entry caller entries moment call outcome =
-    entries ++ record { caller = caller; number = entries_of caller entries + 1; moment = moment; call = call; outcome = outcome } ∷ []
+    let number = entries_of caller entries + 1 in
+    entries ++ record { caller = caller; number = number; moment = moment; call = call; outcome = outcome } ∷ []
 
 -- a call, made after the entries `found`, has this result and leaves these entries
 abbrev pub Ends : ℕ → State → List Entry → ℕ → Call → Result Reply Fault → List Entry → Type 0
 Ends caller opening found moment call (Ok reply) left =
-    (is_full opening.settings found call ≡ false) × (reply ≡ answer opening found moment call) × (left ≡ with_entry caller found moment call Answered)
+    (is_full opening.settings found call ≡ false) × (reply ≡ answer opening found moment call)
+    × (left ≡ with_entry caller found moment call Answered)
 Ends caller opening found moment call (Err (Keeper before after)) left =
-    (is_full opening.settings found call ≡ false) × IsRise before after × (left ≡ with_entry caller found moment call (Faulted before after))
+    (is_full opening.settings found call ≡ false) × IsRise before after
+    × (left ≡ with_entry caller found moment call (Faulted before after))
 Ends caller opening found moment call (Err (JournalFull entries bytes)) left =
     (is_full opening.settings found call ≡ true) × (entries ≡ length found) × (bytes ≡ bytes_of found) × (left ≡ found)
 Ends caller opening found moment call (Err NoMemory) left = left ≡ found
 
 -- one call: entries of others come, and then it ends; the entries stay a journal
-pub record Serves (caller : ℕ) (opening : State) (seen : List Entry) (moment : ℕ) (call : Call) (result : Result Reply Fault) (left : List Entry) : Type 0 where
+pub record Serves
+    (caller : ℕ) (opening : State) (seen : List Entry) (moment : ℕ) (call : Call)
+    (result : Result Reply Fault) (left : List Entry)
+    : Type 0 where
   pub others : List Entry
   pub of_others : AreOfOthers caller others
   pub ends : Ends caller opening (seen ++ others) moment call result left
@@ -40,9 +46,11 @@ pub record Serves (caller : ℕ) (opening : State) (seen : List Entry) (moment :
 
 -- a list of calls with their moments, one after another, with these results; entries of others may come last
 unfoldable pub AreServed : ℕ → State → List Entry → List (ℕ × Call) → List (Result Reply Fault) → List Entry → Type 0
-AreServed caller opening seen [] [] left = (others : List Entry) × AreOfOthers caller others × (left ≡ seen ++ others) × IsLegal opening.settings left
+AreServed caller opening seen [] [] left =
+    (others : List Entry) × AreOfOthers caller others × (left ≡ seen ++ others) × IsLegal opening.settings left
 AreServed caller opening seen (call ∷ calls) (result ∷ results) left =
-    (between : List Entry) × Serves caller opening seen call.0 call.1 result between × AreServed caller opening between calls results left
+    (between : List Entry) × Serves caller opening seen call.0 call.1 result between
+    × AreServed caller opening between calls results left
 AreServed caller opening seen [] (result ∷ results) left = ⊥
 AreServed caller opening seen (call ∷ calls) [] left = ⊥
 

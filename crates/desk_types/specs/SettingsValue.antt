@@ -45,4 +45,11 @@ pub record AreInRange (s : SettingsValue) : Type 0 where
 
 -- the usual settings
 abbrev pub usual : SettingsValue
-usual = record { reserve = RESERVE_USUAL; floor = 0; places = PLACES_USUAL; journal = JOURNAL_USUAL; journal_bytes = JOURNAL_BYTES_MAX; placements = PLACEMENTS_USUAL }
+usual = record {
+  reserve = RESERVE_USUAL;
+  floor = 0;
+  places = PLACES_USUAL;
+  journal = JOURNAL_USUAL;
+  journal_bytes = JOURNAL_BYTES_MAX;
+  placements = PLACEMENTS_USUAL;
+}

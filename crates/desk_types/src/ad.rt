@@ -24,18 +24,22 @@ impl Model for Ad {
 
     ghost Value = { AdValue };
 
-    ghost view = { λ a. record { account = a.account; campaign = a.campaign; line = a.line; bid = a.bid; quality = a.quality } };
+    ghost view = { λ a.
+        record { account = a.account; campaign = a.campaign; line = a.line; bid = a.bid; quality = a.quality } };
 
-    ghost invariant = { λ a. IsInRange (record { account = a.account; campaign = a.campaign; line = a.line; bid = a.bid; quality = a.quality }) };
+    ghost invariant = { λ a.
+        IsInRange (record { account = a.account; campaign = a.campaign; line = a.line; bid = a.bid; quality = a.quality }) };
 
-    ghost inverse = { λ d. record { account = d.account; campaign = d.campaign; line = d.line; bid = d.bid; quality = d.quality } };
+    ghost inverse = { λ d.
+        record { account = d.account; campaign = d.campaign; line = d.line; bid = d.bid; quality = d.quality } };
 }
 
 impl Ad {
     /// The ad of a line, where the bid (cents per click) and the quality are in range, else `None`.
     pub fn new(account: u64, campaign: u64, line: u64, bid: u64, quality: u64) -> Option<Ad>
         ensures in_range { IsSome result ↔ (IsBid bid × IsQuality quality) }
-        ensures made { IfSome result (λ ad. ad ≡ record { account = account; campaign = campaign; line = line; bid = bid; quality = quality }) }
+        ensures made { IfSome result (λ ad.
+            ad ≡ record { account = account; campaign = campaign; line = line; bid = bid; quality = quality }) }
     {
         if bid < BID_MIN || bid > BID_MAX || quality < QUALITY_MIN || quality > QUALITY_MAX {
             return None;

@@ -47,19 +47,22 @@ pub fn budgets_hold()
 pub fn pages_are_by_the_generalised_second_price()
     ensures { (S : State) (entries : List Entry) (moment : ℕ) (text : List ℕ) (places : Option ℕ) (spots : List Spot) →
         IsSound S → let reached = step (run S entries) moment (Call.Search text places) in
-        reached.reply ≡ Reply.Page spots → IsPageAnswered (at_moment (run S entries) moment) text places spots reached.state }
+        reached.reply ≡ Reply.Page spots →
+        IsPageAnswered (at_moment (run S entries) moment) text places spots reached.state }
 {}
 
-/// A click behind an answered click on the same placement changes no row and goes to the same link: right behind it, and
-/// from a sound state whatever entries come between. So does a click at the deadline or later.
+/// A click behind an answered click on the same placement changes no row and goes to the same link: right
+/// behind it, and from a sound state whatever entries come between. So does a click at the deadline or later.
 pub fn clicks_settle_once()
     ensures repeated { (S : State) (first second placement : ℕ) (link : List ℕ) →
         let S1 = (step S first (Call.Click placement)).state in
         (step S first (Call.Click placement)).reply ≡ Reply.Went link → ChangesNoRow S1 second placement link }
     ensures later { (S : State) (between : List Entry) (first second placement : ℕ) (link : List ℕ) → IsSound S →
         let S1 = (step S first (Call.Click placement)).state in
-        (step S first (Call.Click placement)).reply ≡ Reply.Went link → ChangesNoRow (run S1 between) second placement link }
-    ensures too_late { (S : State) (moment placement : ℕ) (p : Placement) → placement_of S.tables placement ≡ Option.Some p →
+        (step S first (Call.Click placement)).reply ≡ Reply.Went link →
+        ChangesNoRow (run S1 between) second placement link }
+    ensures too_late { (S : State) (moment placement : ℕ) (p : Placement) →
+        placement_of S.tables placement ≡ Option.Some p →
         p.deadline ≤ (at_moment S moment).moment → ChangesNoRow S moment placement (link_clicked S.tables placement) }
 {}
 
@@ -77,15 +80,19 @@ pub fn joined_tables_give_the_first_refusal()
 /// Of two states of one run with equal editions the catalogues are equal.
 pub fn equal_editions_have_equal_catalogues()
     ensures { (S : State) (entries more : List Entry) →
-        (run S (entries ++ more)).edition ≡ (run S entries).edition → catalogue (run S (entries ++ more)) ≡ catalogue (run S entries) }
+        (run S (entries ++ more)).edition ≡ (run S entries).edition →
+        catalogue (run S (entries ++ more)) ≡ catalogue (run S entries) }
 {}
 
 /// Calls that are served one after the other are served as one list: no call, one call, and two lists.
 pub fn calls_served_in_turn_are_served_as_one_list()
-    ensures none { (caller : ℕ) (opening : State) (seen : List Entry) → IsLegal opening.settings seen → AreServed caller opening seen [] [] seen }
-    ensures one { (caller : ℕ) (opening : State) (seen left : List Entry) (moment : ℕ) (call : Call) (result : Result Reply Fault) →
-        Serves caller opening seen moment call result left → AreServed caller opening seen ((moment, call) ∷ []) (result ∷ []) left }
-    ensures joined { (caller : ℕ) (opening : State) (seen between left : List Entry) (calls more : List (ℕ × Call)) (results others : List (Result Reply Fault)) →
+    ensures none { (caller : ℕ) (opening : State) (seen : List Entry) →
+        IsLegal opening.settings seen → AreServed caller opening seen [] [] seen }
+    ensures one { (caller : ℕ) (opening : State) (seen left : List Entry) (moment : ℕ) (call : Call)
+        (result : Result Reply Fault) → Serves caller opening seen moment call result left →
+        AreServed caller opening seen ((moment, call) ∷ []) (result ∷ []) left }
+    ensures joined { (caller : ℕ) (opening : State) (seen between left : List Entry) (calls more : List (ℕ × Call))
+        (results others : List (Result Reply Fault)) →
         AreServed caller opening seen calls results between → AreServed caller opening between more others left
         → AreServed caller opening seen (calls ++ more) (results ++ others) left }
 {}
@@ -94,10 +101,13 @@ pub fn calls_served_in_turn_are_served_as_one_list()
 /// with the entry of its answer, or of a fault whose count begins where the last one ended, or above.
 pub fn journals_stay_legal()
     ensures empty { (settings : SettingsValue) → IsLegal settings [] }
-    ensures prefix { (settings : SettingsValue) (entries more : List Entry) → IsLegal settings (entries ++ more) → IsLegal settings entries }
+    ensures prefix { (settings : SettingsValue) (entries more : List Entry) →
+        IsLegal settings (entries ++ more) → IsLegal settings entries }
     ensures answered { (settings : SettingsValue) (seen : List Entry) (caller moment : ℕ) (call : Call) →
-        IsLegal settings seen → is_full settings seen call ≡ false → IsLegal settings (with_entry caller seen moment call Outcome.Answered) }
-    ensures faulted { (settings : SettingsValue) (seen : List Entry) (caller moment : ℕ) (call : Call) (before after : ℕ) →
-        IsLegal settings seen → is_full settings seen call ≡ false → IsRise before after → All (λ e. IsBefore e.outcome (Outcome.Faulted before after)) seen
-        → IsLegal settings (with_entry caller seen moment call (Outcome.Faulted before after)) }
+        IsLegal settings seen → is_full settings seen call ≡ false →
+        IsLegal settings (with_entry caller seen moment call Outcome.Answered) }
+    ensures faulted { (settings : SettingsValue) (seen : List Entry) (caller moment : ℕ) (call : Call)
+        (before after : ℕ) → IsLegal settings seen → is_full settings seen call ≡ false → IsRise before after →
+        All (λ e. IsBefore e.outcome (Outcome.Faulted before after)) seen →
+        IsLegal settings (with_entry caller seen moment call (Outcome.Faulted before after)) }
 {}

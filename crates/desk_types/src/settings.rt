@@ -25,11 +25,32 @@ impl Model for Settings {
 
     ghost Value = { SettingsValue };
 
-    ghost view = { λ s. record { reserve = s.reserve; floor = s.floor; places = s.places; journal = s.journal; journal_bytes = s.journal_bytes; placements = s.placements } };
+    ghost view = { λ s. record {
+      reserve = s.reserve;
+      floor = s.floor;
+      places = s.places;
+      journal = s.journal;
+      journal_bytes = s.journal_bytes;
+      placements = s.placements;
+    } };
 
-    ghost invariant = { λ s. AreInRange (record { reserve = s.reserve; floor = s.floor; places = s.places; journal = s.journal; journal_bytes = s.journal_bytes; placements = s.placements }) };
+    ghost invariant = { λ s. AreInRange (record {
+      reserve = s.reserve;
+      floor = s.floor;
+      places = s.places;
+      journal = s.journal;
+      journal_bytes = s.journal_bytes;
+      placements = s.placements;
+    }) };
 
-    ghost inverse = { λ v. record { reserve = v.reserve; floor = v.floor; places = v.places; journal = v.journal; journal_bytes = v.journal_bytes; placements = v.placements } };
+    ghost inverse = { λ v. record {
+      reserve = v.reserve;
+      floor = v.floor;
+      places = v.places;
+      journal = v.journal;
+      journal_bytes = v.journal_bytes;
+      placements = v.placements;
+    } };
 }
 
 impl Settings {
@@ -44,8 +65,22 @@ impl Settings {
         journal_bytes: u64,
         placements: u64,
     ) -> Option<Settings>
-        ensures in_range { IsSome result ↔ AreInRange (record { reserve = reserve; floor = floor; places = places; journal = journal; journal_bytes = journal_bytes; placements = placements }) }
-        ensures made { IfSome result (λ s. s ≡ record { reserve = reserve; floor = floor; places = places; journal = journal; journal_bytes = journal_bytes; placements = placements }) }
+        ensures in_range { IsSome result ↔ AreInRange (record {
+          reserve = reserve;
+          floor = floor;
+          places = places;
+          journal = journal;
+          journal_bytes = journal_bytes;
+          placements = placements;
+        }) }
+        ensures made { IfSome result (λ s. s ≡ record {
+          reserve = reserve;
+          floor = floor;
+          places = places;
+          journal = journal;
+          journal_bytes = journal_bytes;
+          placements = placements;
+        }) }
     {
         if reserve < BID_MIN
             || reserve > BID_MAX

@@ -17,9 +17,9 @@ unspaced [] = []
 unspaced (byte ∷ more) = if byte == 32 then unspaced more else byte ∷ more
 
 -- the text without the spaces at its end
-unfoldable pub trimmed : List ℕ → List ℕ
-trimmed [] = []
-trimmed (byte ∷ more) = if byte == 32 && length (trimmed more) == 0 then [] else byte ∷ trimmed more
+unfoldable pub unspaced_end : List ℕ → List ℕ
+unspaced_end [] = []
+unspaced_end (byte ∷ more) = if byte == 32 && length (unspaced_end more) == 0 then [] else byte ∷ unspaced_end more
 
 -- what stands behind the first field of a text and the space that ends it
 unfoldable pub behind_first : List ℕ → List ℕ

@@ -12,14 +12,14 @@ use Rattle.desk_io.specs.NextLine.{IsFirstLine}
 use Rattle.desk_io.specs.Reader.{ReaderValue}
 use Rattle.desk_io.specs.SinkView.{SinkView}
 use Rattle.desk_io.specs.Writing.{Appends, AppendsNothing, IsPrefix, IsProperPrefix}
-use Rattle.script_api.specs.declared.limits.TheConstants.{LINE_MAX}
+use Rattle.script_api.specs.declared.limits.TheConstants.{LINE_BYTES_MAX}
 use Rattle.script_api.specs.declared.ending.ScriptEnd.{ScriptEnd}
 use Rattle.script_api.specs.declared.ending.ScriptEnd.TheVariants.{Ended, BadLine, LongLine, TooManyLines, NotBuilt, ReadFault, WriteFault, NoMemory}
 use Rattle.script_api.specs.declared.line.ScriptLine.{ScriptLine}
 use Rattle.script_api.specs.ReplyLine.{answer_line}
 use Rattle.script_api.specs.Script.{script_line}
 use Rattle.script_api.specs.ScriptRun.{AreMade, IsCutOff}
-use Rattle.script_api.specs.Told.{calls_of, form_end, end_at, told_behind, script_of}
+use Rattle.script_api.specs.ScriptValue.{calls_of, form_end, end_at, spelled_behind, script_of}
 
 -- whether a turn goes on, or how it ended the script
 abbrev pub Going : Type 0
@@ -62,7 +62,7 @@ pub record TakesNothing (bytes : List ℕ) (ahead_now : Option (List ℕ)) (held
 
 -- the script of the bytes ahead, behind so many lines, was run to this end
 pub record EndsThere (before : ℕ) (bytes : List ℕ) (ahead_now : Option (List ℕ)) (held_now : List ℕ) (calls : List (ℕ × Call)) (ending : ScriptEnd) : Type 0 where
-  pub made : AreMade (told_behind before (lines bytes)) calls ending
+  pub made : AreMade (spelled_behind before (lines bytes)) calls ending
   pub untaken : ending ≡ ReadFault → TakesNothing bytes ahead_now held_now calls
 
 -- what a turn does with the bytes ahead, where they are told
@@ -74,27 +74,27 @@ Takes before (Some bytes) ahead_now held_now calls (Err ending) = EndsThere befo
 -- the next line was read behind so many others, or there is none that may be
 abbrev pub ReadsLine : ℕ → Option (List ℕ) → Option (List ℕ) → ReaderValue → Going → Type 0
 ReadsLine before ahead ahead_now reader (Ok _) =
-    (ahead_now ≡ option_map after_first_line ahead) × IfSome ahead (λ bytes. IsFirstLine LINE_MAX bytes reader.line × (reader.is_ended ≡ has_line_feed bytes))
+    (ahead_now ≡ option_map after_first_line ahead) × IfSome ahead (λ bytes. IsFirstLine LINE_BYTES_MAX bytes reader.line × (reader.is_ended ≡ has_line_feed bytes))
 ReadsLine before ahead ahead_now reader (Err ending) = Takes before ahead ahead_now reader.held [] (Err ending)
 
--- the call of the numbered line was made, where it tells one
+-- the call of the numbered line was made, where it spells one
 abbrev pub MakesCall : ℕ → ScriptLine → List (ℕ × Call) → Going → Type 0
-MakesCall number told calls (Ok _) = (form_end number told ≡ None) × (calls ≡ calls_of told)
-MakesCall number told calls (Err Ended) = (form_end number told ≡ Some Ended) × (calls ≡ [])
-MakesCall number told calls (Err (BadLine k)) = (form_end number told ≡ Some (BadLine k)) × (calls ≡ [])
-MakesCall number told calls (Err (LongLine k)) = (form_end number told ≡ Some (LongLine k)) × (calls ≡ [])
-MakesCall number told calls (Err TooManyLines) = (form_end number told ≡ Some TooManyLines) × (calls ≡ [])
-MakesCall number told calls (Err (NotBuilt k)) = (form_end number told ≡ Some (NotBuilt k)) × (calls ≡ [])
-MakesCall number told calls (Err ReadFault) = ⊥
-MakesCall number told calls (Err WriteFault) = (form_end number told ≡ None) × (calls ≡ calls_of told)
-MakesCall number told calls (Err NoMemory) = ((form_end number told ≡ None) × (calls ≡ calls_of told)) ⊎ (calls ≡ [])
+MakesCall number spelled calls (Ok _) = (form_end number spelled ≡ None) × (calls ≡ calls_of spelled)
+MakesCall number spelled calls (Err Ended) = (form_end number spelled ≡ Some Ended) × (calls ≡ [])
+MakesCall number spelled calls (Err (BadLine k)) = (form_end number spelled ≡ Some (BadLine k)) × (calls ≡ [])
+MakesCall number spelled calls (Err (LongLine k)) = (form_end number spelled ≡ Some (LongLine k)) × (calls ≡ [])
+MakesCall number spelled calls (Err TooManyLines) = (form_end number spelled ≡ Some TooManyLines) × (calls ≡ [])
+MakesCall number spelled calls (Err (NotBuilt k)) = (form_end number spelled ≡ Some (NotBuilt k)) × (calls ≡ [])
+MakesCall number spelled calls (Err ReadFault) = ⊥
+MakesCall number spelled calls (Err WriteFault) = (form_end number spelled ≡ None) × (calls ≡ calls_of spelled)
+MakesCall number spelled calls (Err NoMemory) = ((form_end number spelled ≡ None) × (calls ≡ calls_of spelled)) ⊎ (calls ≡ [])
 
 -- the call of the numbered line was made and served, and the line of its result put behind the bytes that wait
-pub record IsLineServed (me : ℕ) (opening : State) (seen seen_now : List Entry) (number : ℕ) (told : ScriptLine) (sink sink_now : SinkView) (waiting waiting_now : List ℕ) (going : Going) : Type 0 where
+pub record IsLineServed (me : ℕ) (opening : State) (seen seen_now : List Entry) (number : ℕ) (spelled : ScriptLine) (sink sink_now : SinkView) (waiting waiting_now : List ℕ) (going : Going) : Type 0 where
   pub calls : List (ℕ × Call)
   pub results : List (Result Reply Fault)
   pub served : Served me opening seen calls results seen_now
-  pub makes : MakesCall number told calls going
+  pub makes : MakesCall number spelled calls going
   pub puts : ArePut sink sink_now (waiting ++ flat_map answer_line results) waiting_now going
 
 -- a turn behind so many lines

@@ -1,7 +1,7 @@
 use Rattle.desk_io.specs.NextLine.{ahead}
 use Rattle.desk_io.proofs.Ahead.{none_left}
 use Rattle.script_api.proofs.Turning.{takes-end, takes-long}
-use Rattle.script_api.proofs.serving.Serving.next_line.Goals as goal
+use Rattle.script_api.proofs.serving.LineServing.next_line.Goals as goal
 
 pub returns-in-End-clause-reads : goal.returns-in-End-clause-reads
 returns-in-End-clause-reads g c =

@@ -1,7 +1,7 @@
 use Rattle.desk_io.specs.NextLine.{ahead}
 use Rattle.desk_io.proofs.Ahead.{none_left}
 use Rattle.script_api.proofs.Turning.{takes-end, takes-many}
-use Rattle.script_api.proofs.serving.Serving.see_end.Goals as goal
+use Rattle.script_api.proofs.serving.LineServing.see_end.Goals as goal
 
 pub returns-in-End-clause-takes : goal.returns-in-End-clause-takes
 returns-in-End-clause-takes g c =

@@ -3,7 +3,7 @@ use Rattle.std.proofs.lemmas.Result.{err_from_is_err_and}
 use Rattle.desk_io.specs.NextLine.{ahead}
 use Rattle.script_api.proofs.Making.{turn-broken, turn-unread, turn-ended, turn-went, went-none}
 use Rattle.desk_io.proofs.Ahead.{none_left}
-use Rattle.script_api.proofs.serving.Serving.serve_line.Goals as goal
+use Rattle.script_api.proofs.serving.LineServing.serve_line.Goals as goal
 
 pub returns-in_default-clause-turn : goal.returns-in_default-clause-turn
 returns-in_default-clause-turn g c =

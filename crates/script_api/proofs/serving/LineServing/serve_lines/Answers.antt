@@ -1,9 +1,9 @@
 use Rattle.std.proofs.Common.{◌≡◌, ◌+◌, ◌-◌, ◌∙◌, ℕ, refl, subst, arith, Err}
 use Rattle.desk_io.specs.NextLine.{ahead}
-use Rattle.script_api.specs.declared.limits.TheConstants.{LINES_MAX}
+use Rattle.script_api.specs.declared.limits.TheConstants.{INPUT_LINES_MAX}
 use Rattle.script_api.proofs.Looping.{AreTurnsSoFar, so_far-none, so_far-more, so_far-end}
 use Rattle.script_api.proofs.Making.{turn-no_call}
-use Rattle.script_api.proofs.serving.Serving.serve_lines.Goals as goal
+use Rattle.script_api.proofs.serving.LineServing.serve_lines.Goals as goal
 
 pub loop-number-init : goal.loop-number-init
 loop-number-init g c = record {
@@ -46,8 +46,8 @@ returns-in-Err-clause-turns g c =
 pub returns-clause-turns : goal.returns-clause-turns
 returns-clause-turns g c =
     let before = c.loop-number.invariant in
-    let last : c.loop-number.number - 1 ≡ LINES_MAX = omega arith in
-    so_far-end _ _ _ _ _ LINES_MAX (ahead c.args.self.now.reader (g.S.Source.source c.args.input.now).left) (ahead c.loop-number.self.reader (g.S.Source.source c.loop-number.input).left) (ahead c.see_end.new.self.reader (g.S.Source.source c.see_end.new.input).left)
+    let last : c.loop-number.number - 1 ≡ INPUT_LINES_MAX = omega arith in
+    so_far-end _ _ _ _ _ INPUT_LINES_MAX (ahead c.args.self.now.reader (g.S.Source.source c.args.input.now).left) (ahead c.loop-number.self.reader (g.S.Source.source c.loop-number.input).left) (ahead c.see_end.new.self.reader (g.S.Source.source c.see_end.new.input).left)
     _ _ _ c.loop-number.self.answers c.see_end.new.self.answers c.see_end.new.self.reader (g.S.Source.source c.see_end.new.input).left c.see_end.result (rw last at before.turns)
-    (turn-no_call _ _ _ LINES_MAX (ahead c.loop-number.self.reader (g.S.Source.source c.loop-number.input).left) (ahead c.see_end.new.self.reader (g.S.Source.source c.see_end.new.input).left) c.see_end.new.self.reader.held
+    (turn-no_call _ _ _ INPUT_LINES_MAX (ahead c.loop-number.self.reader (g.S.Source.source c.loop-number.input).left) (ahead c.see_end.new.self.reader (g.S.Source.source c.see_end.new.input).left) c.see_end.new.self.reader.held
     _ _ c.loop-number.self.answers c.see_end.new.self.answers (Err c.see_end.result) (rw before.opening at c.history_is_legal.ensures.legal) c.see_end.ensures.takes c.see_end.ensures.puts)

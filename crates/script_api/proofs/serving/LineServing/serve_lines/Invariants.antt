@@ -1,12 +1,12 @@
 use Rattle.std.proofs.Common.{◌≡◌, ◌-◌, ◌≤◌}
 use Rattle.desk_io.specs.NextLine.{ahead}
-use Rattle.script_api.specs.declared.limits.TheConstants.{LINE_MAX}
+use Rattle.script_api.specs.declared.limits.TheConstants.{LINE_BYTES_MAX}
 use Rattle.script_api.proofs.Looping.{AreTurnsSoFar}
-use Rattle.script_api.proofs.serving.Serving.serve_lines.Given as goal
+use Rattle.script_api.proofs.serving.LineServing.serve_lines.Given as goal
 
 abbrev pub invariant-loop-number : goal.invariant-loop-number
 invariant-loop-number g l = record {
-  max : l.self.reader.max ≡ LINE_MAX;
+  max : l.self.reader.max ≡ LINE_BYTES_MAX;
   home : g.V.Service.home l.service ≡ g.V.Service.home l.fn.service;
   opening : g.V.Service.opening l.service ≡ g.V.Service.opening l.fn.service;
   me : g.V.Service.me l.service ≡ g.V.Service.me l.fn.service;

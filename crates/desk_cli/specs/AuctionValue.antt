@@ -1,24 +1,24 @@
--- The first line with a fault, and what an auction without one tells.
+-- The first line with a fault, and what an auction without one spells.
 use Rattle.std.specs.Prelude.{ℕ, ◌+◌, nat_lt, nat_le, if◌then◌else◌, List, [], ◌∷◌, ◌++◌, length, Option, Some, None, Result, Ok, Err}
 use Rattle.std.specs.List.{list_any, filter_map}
 use Rattle.desk_types.specs.AdValue.{AdValue, is_same_line}
 use Rattle.desk_io.specs.Lines.{Line}
-use Rattle.script_api.specs.declared.limits.TheConstants.{LINE_MAX, LINES_MAX}
+use Rattle.script_api.specs.declared.limits.TheConstants.{LINE_BYTES_MAX, INPUT_LINES_MAX}
 use Rattle.desk_cli.specs.declared.limits.TheConstants.{ADS_MAX}
 use Rattle.desk_cli.specs.declared.fault.LineFault.{LineFault}
 use Rattle.desk_cli.specs.declared.fault.LineFault.TheVariants.{BadLine, LongLine, TooManyLines}
 use Rattle.desk_cli.specs.declared.form.AdLine.{AdLine}
 use Rattle.desk_cli.specs.HeadingValue.{HeadingValue}
 use Rattle.desk_cli.specs.Form.{heading_in, ad_in}
-use Rattle.script_api.specs.Fields.{is_skipped}
-use Rattle.desk_cli.specs.Told.{spoken, eligible_ads}
+use Rattle.script_api.specs.LineFields.{is_skipped}
+use Rattle.desk_cli.specs.AuctionLines.{spoken, eligible_under}
 
--- the fault of the numbered line that is to tell the heading: it tells none
+-- the fault of the numbered line that is to spell the heading: it spells none
 abbrev pub heading_fault : ℕ → Option HeadingValue → Option LineFault
 heading_fault number None = Some (BadLine number)
 heading_fault number (Some heading) = None
 
--- the fault of the numbered line that is to tell an ad, behind earlier ads: it tells none, or tells one of a line that was named before, or one too many
+-- the fault of the numbered line that is to spell an ad, behind earlier ads: it spells none, or spells one of a line that was named before, or one too many
 abbrev pub ad_fault : ℕ → List AdLine → Option AdLine → Option LineFault
 ad_fault number earlier None = Some (BadLine number)
 ad_fault number earlier (Some line) =
@@ -33,8 +33,8 @@ form_fault number (heading ∷ ads) text = ad_fault number (filter_map ad_in ads
 -- the fault of a line behind others: first by their number, then by its length, then, where it is not passed over, by its form
 unfoldable pub fault_at : List Line → Line → Option LineFault
 fault_at before line =
-    if nat_le LINES_MAX (length before) then Some TooManyLines
-    else (if nat_lt LINE_MAX line.size then Some (LongLine (length before + 1))
+    if nat_le INPUT_LINES_MAX (length before) then Some TooManyLines
+    else (if nat_lt LINE_BYTES_MAX line.size then Some (LongLine (length before + 1))
     else (if is_skipped line.text then None
     else form_fault (length before + 1) (spoken before) line.text))
 
@@ -55,16 +55,16 @@ pub record AuctionValue : Type 0 where
 -- the auction of a heading and ads; an end before the heading is a bad line
 abbrev pub auction_from : ℕ → Option HeadingValue → List AdLine → Result AuctionValue LineFault
 auction_from number None lines = Err (BadLine number)
-auction_from number (Some heading) lines = Ok (record { heading = heading; ads = eligible_ads heading lines })
+auction_from number (Some heading) lines = Ok (record { heading = heading; ads = eligible_under heading lines })
 
 abbrev pub auction_of : ℕ → List (List ℕ) → Result AuctionValue LineFault
 auction_of number [] = Err (BadLine number)
 auction_of number (heading ∷ ads) = auction_from number (heading_in heading) (filter_map ad_in ads)
 
 abbrev pub unless_fault : Option LineFault → Result AuctionValue LineFault → Result AuctionValue LineFault
-unless_fault None told = told
-unless_fault (Some fault) told = Err fault
+unless_fault None spelled = spelled
+unless_fault (Some fault) spelled = Err fault
 
--- what lines tell: the first fault, or else an auction
-unfoldable pub told_by : List Line → Result AuctionValue LineFault
-told_by lines = unless_fault (first_fault [] lines) (auction_of (length lines + 1) (spoken lines))
+-- what lines spell: the first fault, or else an auction
+unfoldable pub spelled_by : List Line → Result AuctionValue LineFault
+spelled_by lines = unless_fault (first_fault [] lines) (auction_of (length lines + 1) (spoken lines))

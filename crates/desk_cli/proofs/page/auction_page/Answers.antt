@@ -4,14 +4,14 @@ use Rattle.desk_types.specs.Order.{better}
 use Rattle.desk_types.specs.Page.{entrants}
 use Rattle.desk_types.specs.Price.{price}
 use Rattle.desk_cli.specs.Ending.{auction_value}
-use Rattle.desk_cli.specs.Meets.{Meets}
-use Rattle.desk_cli.specs.Outcome.{entrant_line}
+use Rattle.desk_cli.specs.MeetsHeading.{MeetsHeading}
+use Rattle.desk_cli.specs.Printout.{entrant_line}
 use Rattle.desk_cli.proofs.OnPage.{written-zero, written-more, written-end, item-on_page, item-meets, IsOnPage, copied}
-use Rattle.desk_cli.proofs.page.page_text.Goals as goal
+use Rattle.desk_cli.proofs.page.auction_page.Goals as goal
 
 pub price-price-requires-clause-meets : goal.price-price-requires-clause-meets
 price-price-requires-clause-meets c =
-    let meets : Meets c.args.auction.now.heading c.ranked-item.result.ad =
+    let meets : MeetsHeading c.args.auction.now.heading c.ranked-item.result.ad =
     item-meets c.args.auction.now.heading c.args.auction.now.ads.items c.as_slice.result.now c.as_slice-ranked-items.result.now c.loop-index.index c.ranked-item.result
     c.as_slice.ensures.value c.requires (rw c.as_slice-ranked-items.ensures.value c.in_ok-page.ensures.each) c.loop-index-test.true c.ranked-item.is in
     rw (c.reserve-reserve.ensures.reserve, c.floor-floor.ensures.floor) meets

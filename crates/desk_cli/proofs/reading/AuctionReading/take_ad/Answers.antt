@@ -1,7 +1,7 @@
 use Rattle.std.proofs.Common.{ap, ◌∙◌}
 use Rattle.desk_cli.specs.Running.{SoFar}
 use Rattle.desk_cli.proofs.Meeting.{more-meet}
-use Rattle.desk_cli.proofs.reading.Reading.take_ad.Goals as goal
+use Rattle.desk_cli.proofs.reading.AuctionReading.take_ad.Goals as goal
 
 pub invariant_of-self-in-Some : goal.invariant_of-self-in-Some
 invariant_of-self-in-Some c =

@@ -1,7 +1,7 @@
 use Rattle.std.proofs.Common.{ap, ◌∙◌}
 use Rattle.desk_cli.specs.Running.{SoFar}
 use Rattle.desk_cli.proofs.Meeting.{first-meet}
-use Rattle.desk_cli.proofs.reading.Reading.take_heading.Goals as goal
+use Rattle.desk_cli.proofs.reading.AuctionReading.take_heading.Goals as goal
 
 pub invariant_of-self : goal.invariant_of-self
 invariant_of-self c =

@@ -13,37 +13,37 @@ use Rattle.desk_cli.specs.declared.fault.LineFault.{LineFault}
 use Rattle.desk_cli.specs.declared.fault.LineFault.TheVariants.{BadLine, LongLine, TooManyLines}
 use Rattle.desk_cli.specs.declared.fault.ReadEnd.{ReadEnd}
 use Rattle.desk_cli.specs.declared.fault.ReadEnd.TheVariants.{Fault}
-use Rattle.desk_cli.specs.Ending.{ReadsAs, IsAuctionOutcome, IsJudged, IsSaid, IsWritten}
-use Rattle.desk_cli.specs.Judged.{AuctionValue, told_by}
-use Rattle.desk_cli.specs.Outcome.{Outcome, outcome_of, fault_status}
+use Rattle.desk_cli.specs.Ending.{ReadsAs, IsAuctionPrintout, IsJudged, IsSaid, IsWritten}
+use Rattle.desk_cli.specs.AuctionValue.{AuctionValue, spelled_by}
+use Rattle.desk_cli.specs.Printout.{Printout, printout_of, fault_status}
 
 Rose-before : (before faults now : ℕ) → before ≤ faults → Rose faults now → Rose before now
 Rose-before before faults now rises rose = omega arith
 
-abbrev answered : Answer → Outcome
-answered answer = record { output = string_bytes answer.text; status = answer.status }
+abbrev answered : Answer → Printout
+answered answer = record { text = string_bytes answer.text; status = answer.status }
 
-same_outcome : (answer : Answer) (output : List ℕ) (status : ℕ) → string_bytes answer.text ≡ output → answer.status ≡ status →
-    let outcome : Outcome = record { output = output; status = status } in answered answer ≡ outcome
-same_outcome answer output status text is = cc
+same_printout : (answer : Answer) (output : List ℕ) (status : ℕ) → string_bytes answer.text ≡ output → answer.status ≡ status →
+    let printout : Printout = record { text = output; status = status } in answered answer ≡ printout
+same_printout answer output status text is = cc
 
--- the answer is that of what the bytes tell
-pub judged-answer : {E : Type 0} (source source_now : SourceView) (told : Result AuctionValue LineFault) (result : Result Answer E) →
-    IfSome source.left (λ bytes. told_by (lines bytes) ≡ told) →
-    IfOk result (λ answer. string_bytes answer.text ≡ (outcome_of told).output) → IfOk result (λ answer. answer.status ≡ (outcome_of told).status) →
-    IfOk result (λ answer. IsAuctionOutcome source source_now (answered answer))
-judged-answer source source_now told (Ok answer) tells text status =
-    inr (record { told = told; is = same_outcome answer (outcome_of told).output (outcome_of told).status text status; bytes_tell = tells })
-judged-answer source source_now told (Err e) tells text status = tt
+-- the answer is that of what the bytes spell
+pub judged-answer : {E : Type 0} (source source_now : SourceView) (spelled : Result AuctionValue LineFault) (result : Result Answer E) →
+    IfSome source.left (λ bytes. spelled_by (lines bytes) ≡ spelled) →
+    IfOk result (λ answer. string_bytes answer.text ≡ (printout_of spelled).text) → IfOk result (λ answer. answer.status ≡ (printout_of spelled).status) →
+    IfOk result (λ answer. IsAuctionPrintout source source_now (answered answer))
+judged-answer source source_now spelled (Ok answer) tells text status =
+    inr (record { spelled = spelled; is = same_printout answer (printout_of spelled).text (printout_of spelled).status text status; bytes_spell = tells })
+judged-answer source source_now spelled (Err e) tells text status = tt
 
 pub fault-tells : (left : Option (List ℕ)) (end : ReadEnd) (fault : LineFault) → end ≡ Fault fault →
-    IfSome left (λ bytes. ReadsAs (told_by (lines bytes)) (Err end)) → IfSome left (λ bytes. told_by (lines bytes) ≡ Err fault)
-fault-tells left end fault is reads = subst (λ e. IfSome left (λ bytes. ReadsAs (told_by (lines bytes)) (Err e))) is reads
+    IfSome left (λ bytes. ReadsAs (spelled_by (lines bytes)) (Err end)) → IfSome left (λ bytes. spelled_by (lines bytes) ≡ Err fault)
+fault-tells left end fault is reads = subst (λ e. IfSome left (λ bytes. ReadsAs (spelled_by (lines bytes)) (Err e))) is reads
 
 pub read_fault-answer : {E : Type 0} (source source_now : SourceView) (result : Result Answer E) → Rose source.faults source_now.faults →
     IfOk result (λ answer. string_bytes answer.text ≡ codes "read fault\n") → IfOk result (λ answer. answer.status ≡ 3) →
-    IfOk result (λ answer. IsAuctionOutcome source source_now (answered answer))
-read_fault-answer source source_now (Ok answer) rose text status = inl (record { rose = rose; is = same_outcome answer (codes "read fault\n") 3 text status })
+    IfOk result (λ answer. IsAuctionPrintout source source_now (answered answer))
+read_fault-answer source source_now (Ok answer) rose text status = inl (record { rose = rose; is = same_printout answer (codes "read fault\n") 3 text status })
 read_fault-answer source source_now (Err e) rose text status = tt
 
 -- a status that is not 0 says nothing of what is left
@@ -62,13 +62,13 @@ pub all_read : {E : Type 0} (P : Type 0) (result : Result Answer E) → P → If
 all_read P (Ok answer) p = λ zero. p
 all_read P (Err e) p = tt
 
--- some outcome is that of what the bytes tell
-pub some_judged : (source : SourceView) → (outcome : Outcome) × IsJudged source outcome
-some_judged source = let told = some_told source.left in (outcome_of told.0, record { told = told.0; is = refl; bytes_tell = told.1 })
+-- some printout is that of what the bytes spell
+pub some_judged : (source : SourceView) → (printout : Printout) × IsJudged source printout
+some_judged source = let spelled = some_spelled source.left in (printout_of spelled.0, record { spelled = spelled.0; is = refl; bytes_spell = spelled.1 })
   where
-    some_told : (left : Option (List ℕ)) → (told : Result AuctionValue LineFault) × IfSome left (λ bytes. told_by (lines bytes) ≡ told)
-    some_told None = (Err TooManyLines, tt)
-    some_told (Some bytes) = (told_by (lines bytes), refl)
+    some_spelled : (left : Option (List ℕ)) → (spelled : Result AuctionValue LineFault) × IfSome left (λ bytes. spelled_by (lines bytes) ≡ spelled)
+    some_spelled None = (Err TooManyLines, tt)
+    some_spelled (Some bytes) = (spelled_by (lines bytes), refl)
 
 proper-behind : (sent part waiting text : List ℕ) → sent ++ waiting ≡ text → IsProperPrefix part waiting → IsProperPrefix (sent ++ part) text
 proper-behind sent part waiting text whole prefix =
@@ -77,7 +77,7 @@ proper-behind sent part waiting text whole prefix =
 -- what waited is said behind what was sent
 pub said-behind : (o p q : SinkView) (text waiting sent : List ℕ) (status result : ℕ) →
     o.faults ≤ p.faults → Appends o p sent → sent ++ waiting ≡ text → IsSaid p q waiting status result →
-    IsWritten o q (record { output = text; status = status }) result
+    IsWritten o q (record { text = text; status = status }) result
 said-behind o p q text waiting sent status result rises first whole (inl said) =
     inl (inl (record { answered = said.answered; appended = subst (Appends o q) whole (Appends_more o p q sent waiting first said.appended) }))
 said-behind o p q text waiting sent status result rises first whole (inr said) =
@@ -102,17 +102,17 @@ one-word [] shown word bytes text r one is same tested = absurd (omega arith)
 one-word (w ∷ []) shown word bytes text r one is same tested = rw (ap shown (sym is) ∙ sym same) (word-is bytes text r tested)
 one-word (w ∷ v ∷ more) shown word bytes text r one is same tested = absurd (omega arith)
 
--- a call that says an outcome with a status other than 0 answers another status too
-pub written-not_0 : (o q : SinkView) (outcome : Outcome) (status : ℕ) → outcome.status ≢ 0 → IsWritten o q outcome status → status ≢ 0
-written-not_0 o q outcome status other (inl (inl all)) = λ zero. other (sym all.answered ∙ zero)
-written-not_0 o q outcome status other (inl (inr cut)) = λ zero. omega (arith, cut.answered, zero)
-written-not_0 o q outcome status other (inr none) = λ zero. omega (arith, none.answered, zero)
+-- a call that says a printout with a status other than 0 answers another status too
+pub written-not_0 : (o q : SinkView) (printout : Printout) (status : ℕ) → printout.status ≢ 0 → IsWritten o q printout status → status ≢ 0
+written-not_0 o q printout status other (inl (inl all)) = λ zero. other (sym all.answered ∙ zero)
+written-not_0 o q printout status other (inl (inr cut)) = λ zero. omega (arith, cut.answered, zero)
+written-not_0 o q printout status other (inr none) = λ zero. omega (arith, none.answered, zero)
 
 -- the text and the status of an answer that is known
-pub answer-is : {E : Type 0} (result : Result Answer E) (outcome : Outcome) → IfOk result (λ answer. string_bytes answer.text ≡ outcome.output) → IfOk result (λ answer. answer.status ≡ outcome.status)
-    → IfOk result (λ answer. (string_bytes answer.text ≡ outcome.output) × (answer.status ≡ outcome.status))
-answer-is (Ok answer) outcome text status = (text, status)
-answer-is (Err e) outcome text status = tt
+pub answer-is : {E : Type 0} (result : Result Answer E) (printout : Printout) → IfOk result (λ answer. string_bytes answer.text ≡ printout.text) → IfOk result (λ answer. answer.status ≡ printout.status)
+    → IfOk result (λ answer. (string_bytes answer.text ≡ printout.text) × (answer.status ≡ printout.status))
+answer-is (Ok answer) printout text status = (text, status)
+answer-is (Err e) printout text status = tt
 
 -- the statuses of a read fault and of a line without a call
 pub three-not_0 : (status : ℕ) → status ≡ 3 → status ≢ 0

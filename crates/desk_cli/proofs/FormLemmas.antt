@@ -1,4 +1,4 @@
--- A line with another number of fields tells nothing.
+-- A line with another number of fields spells nothing.
 use Rattle.std.proofs.Common.{◌≡◌, ◌≢◌, ℕ, List, [], ◌∷◌, length, refl}
 use Rattle.std.specs.Prelude.{None}
 use Rattle.desk_cli.specs.Form.{heading_of_fields, name_of_parts, ad_of_fields}

@@ -7,45 +7,45 @@ use Rattle.desk_types.specs.AdValue.{AdValue, score}
 use Rattle.desk_cli.specs.HeadingValue.{HeadingValue}
 use Rattle.desk_cli.specs.declared.fault.ReadEnd.{ReadEnd}
 use Rattle.desk_cli.specs.declared.form.AdLine.{AdLine}
-use Rattle.desk_cli.specs.Meets.{Meets, AllMeet}
+use Rattle.desk_cli.specs.MeetsHeading.{MeetsHeading, AllMeet}
 use Rattle.desk_cli.specs.Running.{kept_ads}
-use Rattle.desk_cli.specs.Told.{is_eligible}
+use Rattle.desk_cli.specs.AuctionLines.{is_eligible_under}
 
-none-meet : (heading : HeadingValue) (ads : List AdValue) → ads ≡ [] → All (Meets heading) ads
+none-meet : (heading : HeadingValue) (ads : List AdValue) → ads ≡ [] → All (MeetsHeading heading) ads
 none-meet heading [] none = λ k d in_list. absurd (omega arith)
 none-meet heading (ad ∷ ads) none = cc
 
 -- before the heading there is no ad
-pub first-meet : (told : Option HeadingValue) (heading : HeadingValue) (ads : List AdValue) → told ≡ None → AllMeet told ads → All (Meets heading) ads
+pub first-meet : (spelled : Option HeadingValue) (heading : HeadingValue) (ads : List AdValue) → spelled ≡ None → AllMeet spelled ads → All (MeetsHeading heading) ads
 first-meet None heading ads is meet = none-meet heading ads meet
 first-meet (Some other) heading ads is meet = cc
 
-eligible-meets : (heading : HeadingValue) (line : AdLine) → is_eligible heading line ≡ true → Meets heading line.ad
-unfolding is_eligible
+eligible-meets : (heading : HeadingValue) (line : AdLine) → is_eligible_under heading line ≡ true → MeetsHeading heading line.ad
+unfolding is_eligible_under
 eligible-meets heading line h =
     let reserve = and_parts (nat_le heading.reserve line.ad.bid) _ h in
     let floor = and_parts (nat_le heading.floor (score line.ad)) _ reserve.1 in
     (leb-true heading.reserve line.ad.bid reserve.0, leb-true heading.floor (score line.ad) floor.0)
 
-meets-one : (heading : HeadingValue) (ad : AdValue) → Meets heading ad → (k : ℕ) (d : AdValue) → k < 1 → Meets heading (get_or (ad ∷ []) k d)
+meets-one : (heading : HeadingValue) (ad : AdValue) → MeetsHeading heading ad → (k : ℕ) (d : AdValue) → k < 1 → MeetsHeading heading (get_or (ad ∷ []) k d)
 meets-one heading ad meets zero d in_list = meets
 meets-one heading ad meets (suc k) d in_list = absurd (omega arith)
 
-kept-meet : (heading : HeadingValue) (line : AdLine) (eligible : Bool) → is_eligible heading line ≡ eligible → All (Meets heading) (kept_ads eligible line)
+kept-meet : (heading : HeadingValue) (line : AdLine) (eligible : Bool) → is_eligible_under heading line ≡ eligible → All (MeetsHeading heading) (kept_ads eligible line)
 kept-meet heading line true h = meets-one heading line.ad (eligible-meets heading line h)
 kept-meet heading line false h = λ k d in_list. absurd (omega arith)
 
-some-meet : (told : Option HeadingValue) (heading : HeadingValue) (ads : List AdValue) (line : AdLine) → told ≡ Some heading → AllMeet told ads →
-    AllMeet told (ads ++ kept_ads (is_eligible heading line) line)
+some-meet : (spelled : Option HeadingValue) (heading : HeadingValue) (ads : List AdValue) (line : AdLine) → spelled ≡ Some heading → AllMeet spelled ads →
+    AllMeet spelled (ads ++ kept_ads (is_eligible_under heading line) line)
 some-meet None heading ads line is meet = cc
 some-meet (Some other) heading ads line is meet =
     let same : heading ≡ other = cc in
-    subst (λ (h : HeadingValue). All (Meets other) (ads ++ kept_ads (is_eligible h line) line)) (sym same)
-    (All-append (Meets other) ads (kept_ads (is_eligible other line) line) meet (kept-meet other line (is_eligible other line) refl))
+    subst (λ (h : HeadingValue). All (MeetsHeading other) (ads ++ kept_ads (is_eligible_under h line) line)) (sym same)
+    (All-append (MeetsHeading other) ads (kept_ads (is_eligible_under other line) line) meet (kept-meet other line (is_eligible_under other line) refl))
 
 -- an ad is kept, or, for want of memory, none
-pub more-meet : (told : Option HeadingValue) (heading : HeadingValue) (ads kept : List AdValue) (line : AdLine) (result : Result (Unit {0}) ReadEnd) →
-    told ≡ Some heading → AllMeet told ads →
-    OnOk result (kept ≡ ads ++ kept_ads (is_eligible heading line) line) → OnErr result (kept ≡ ads) → AllMeet told kept
-more-meet told heading ads kept line (Ok _) is meet ok err = rw ok (some-meet told heading ads line is meet)
-more-meet told heading ads kept line (Err end) is meet ok err = rw err meet
+pub more-meet : (spelled : Option HeadingValue) (heading : HeadingValue) (ads kept : List AdValue) (line : AdLine) (result : Result (Unit {0}) ReadEnd) →
+    spelled ≡ Some heading → AllMeet spelled ads →
+    OnOk result (kept ≡ ads ++ kept_ads (is_eligible_under heading line) line) → OnErr result (kept ≡ ads) → AllMeet spelled kept
+more-meet spelled heading ads kept line (Ok _) is meet ok err = rw ok (some-meet spelled heading ads line is meet)
+more-meet spelled heading ads kept line (Err end) is meet ok err = rw err meet

@@ -16,9 +16,9 @@ use Rattle.desk_types.proofs.Pages.{Has-slice_get, page-first_places, next_below
 use Rattle.rank_core.specs.Ranked.{IsRankedAmong, ranked}
 use Rattle.rank_core.specs.declared.page.Ranked.{Ranked}
 use Rattle.desk_cli.specs.HeadingValue.{HeadingValue}
-use Rattle.desk_cli.specs.Judged.{AuctionValue}
-use Rattle.desk_cli.specs.Meets.{Meets}
-use Rattle.desk_cli.specs.Outcome.{entrant_line, entrant_text, page_text}
+use Rattle.desk_cli.specs.AuctionValue.{AuctionValue}
+use Rattle.desk_cli.specs.MeetsHeading.{MeetsHeading}
+use Rattle.desk_cli.specs.Printout.{entrant_line, entrant_text, auction_page_text}
 
 -- what is known of the entrant that is the k-th on the page, counted from 0
 pub record IsOnPage (entered : List AdValue) (n k : ℕ) (r : Ranked) : Type 0 where
@@ -60,11 +60,11 @@ unfolding ranked
 length-ranked entered n = length-map (page entered n) (λ (x : AdValue). let y : Ranked = record { ad = x; next = next_below entered x } in y)
 
 -- an entrant is one of the ads, which meet the heading
-pub item-meets : (heading : HeadingValue) (ads ads' : List AdValue) (items : List Ranked) (k : ℕ) (r : Ranked) → ads' ≡ ads → All (Meets heading) ads →
-    All (IsRankedAmong ads') items → k < length items → r ≡ get_or items k r → Meets heading r.ad
+pub item-meets : (heading : HeadingValue) (ads ads' : List AdValue) (items : List Ranked) (k : ℕ) (r : Ranked) → ads' ≡ ads → All (MeetsHeading heading) ads →
+    All (IsRankedAmong ads') items → k < length items → r ≡ get_or items k r → MeetsHeading heading r.ad
 item-meets heading ads ads' items k r same meet among in_list is =
     let ranked_among : IsRankedAmong ads' r = subst (IsRankedAmong ads') (sym is) (among k r in_list) in
-    All-contains (Meets heading) ads r.ad meet (subst (λ (xs : List AdValue). Contains xs r.ad) same ranked_among.among_ads)
+    All-contains (MeetsHeading heading) ads r.ad meet (subst (λ (xs : List AdValue). Contains xs r.ad) same ranked_among.among_ads)
 
 -- the lines of the first k entrants on the page
 unfoldable pub written : AuctionValue → ℕ → List ℕ
@@ -74,8 +74,8 @@ pub written-zero : (auction : AuctionValue) → written auction 0 ≡ []
 unfolding written
 written-zero auction = refl
 
-pub written-all : (auction : AuctionValue) (k : ℕ) → length (page (entrants auction.ads) auction.heading.places) ≤ k → written auction k ++ codes "end\n" ≡ page_text auction
-unfolding written page_text
+pub written-all : (auction : AuctionValue) (k : ℕ) → length (page (entrants auction.ads) auction.heading.places) ≤ k → written auction k ++ codes "end\n" ≡ auction_page_text auction
+unfolding written auction_page_text
 written-all auction k all = ap (λ ads. flat_map (entrant_text auction) ads ++ codes "end\n") (take_all k (page (entrants auction.ads) auction.heading.places) all)
 
 in-page : (xs : List AdValue) (k : ℕ) (a : AdValue) → slice_get xs k ≡ Some a → k < length xs
@@ -114,7 +114,7 @@ copied P (Some b) (Some a) same h = let e : a ≡ b.now = cc in subst P e h
 
 -- all entrants on the page are written where the items are at their end
 pub written-end : (auction : AuctionValue) (ads : List AdValue) (n k : ℕ) (items : List Ranked) → ads ≡ auction.ads → n ≡ auction.heading.places →
-    items ≡ ranked (entrants ads) n → length items ≤ k → written auction k ++ codes "end\n" ≡ page_text auction
+    items ≡ ranked (entrants ads) n → length items ≤ k → written auction k ++ codes "end\n" ≡ auction_page_text auction
 written-end auction ads n k items same_ads same_n all ends =
     let long : length items ≡ length (page (entrants ads) n) = ap length all ∙ length-ranked (entrants ads) n in
     let long' : length items ≡ length (page (entrants auction.ads) auction.heading.places) = rw (same_ads, same_n) at long in

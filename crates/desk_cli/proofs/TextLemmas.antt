@@ -1,4 +1,4 @@
--- Bytes that tell a heading or an ad are text.
+-- Bytes that spell a heading or an ad are text.
 use Rattle.std.proofs.Common.{◌≡◌, ◌≢◌, ℕ, List, [], ◌∷◌, length, refl, sym, subst, arith, Bool, true, inl, inr}
 use Rattle.std.specs.Prelude.{Option, Some, None, codes, bytes_eq, ◌==◌, nat_lt, filter}
 use Rattle.std.specs.Bool.{Decides}
@@ -13,13 +13,13 @@ use Rattle.std.proofs.lemmas.Bool.Decides.{nat_tests}
 use Rattle.std.proofs.lemmas.Grind.{common_steps}
 use Rattle.desk_types.specs.declared.limits.TheConstants.{BID_MIN, BID_MAX, QUALITY_MIN, QUALITY_MAX, FLOOR_MAX, PLACES_MAX}
 use Rattle.script_api.proofs.NumberLemmas.{numeral-IsUtf8}
-use Rattle.script_api.specs.Fields.{fields}
+use Rattle.script_api.specs.LineFields.{fields}
 use Rattle.script_api.specs.Number.{is_numeral, number_within}
 use Rattle.desk_cli.specs.declared.limits.TheConstants.{NUMBER_MAX, FREE_MAX}
 use Rattle.desk_cli.specs.declared.form.LineName.{LineName}
 use Rattle.desk_cli.specs.Form.{parts, heading_from, heading_of_fields, heading_in, name_from, name_of_parts, name_in, ad_from, ad_of_fields, ad_in, has_outer_space}
 
-none_from : {A : Type 0} (told : Option A) → ¬ (told ≢ None) → told ≡ None
+none_from : {A : Type 0} (spelled : Option A) → ¬ (spelled ≢ None) → spelled ≡ None
 none_from None h = refl
 none_from (Some x) h = absurd (h (λ e. cc))
 
@@ -65,9 +65,9 @@ parts_text text each =
 
 number_text : (least most : ℕ) (text : List ℕ) → number_within least most text ≢ None → IsUtf8 text
 unfolding number_within
-number_text least most text told = elim (cases_Bool (is_numeral text)) [
+number_text least most text spelled = elim (cases_Bool (is_numeral text)) [
   | inl is ↦ numeral-IsUtf8 text is
-  | inr other ↦ absurd (told (rw other refl))
+  | inr other ↦ absurd (spelled (rw other refl))
 ]
 
 word_text : (word other : List ℕ) → IsUtf8 other → bytes_eq word other ≡ true → IsUtf8 word
@@ -75,43 +75,43 @@ word_text word other text is =
     let tells : Decides (bytes_eq word other) (word ≡ other) = bytes_eq-Decides word other in
     subst IsUtf8 (sym (tells.0 is)) text
 
-heading_told : (reserve floor places : Option ℕ) → heading_from reserve floor places ≢ None → (reserve ≢ None) × (floor ≢ None) × (places ≢ None)
-heading_told (Some r) (Some f) (Some p) h = (λ e. cc, λ e. cc, λ e. cc)
-heading_told _ _ _ h = absurd (h refl)
+heading_spelled : (reserve floor places : Option ℕ) → heading_from reserve floor places ≢ None → (reserve ≢ None) × (floor ≢ None) × (places ≢ None)
+heading_spelled (Some r) (Some f) (Some p) h = (λ e. cc, λ e. cc, λ e. cc)
+heading_spelled _ _ _ h = absurd (h refl)
 
 heading_fields : (fields : List (List ℕ)) → heading_of_fields fields ≢ None → All IsUtf8 fields
 heading_fields (word ∷ reserve ∷ floor ∷ places ∷ []) h = elim (cases_Bool (bytes_eq word (codes "auction"))) [
   | inl is ↦
-      let told = heading_told (number_within BID_MIN BID_MAX reserve) (number_within 0 FLOOR_MAX floor) (number_within 1 PLACES_MAX places) (λ e. h (rw is e)) in
-      (word_text word (codes "auction") (ascii_text (codes "auction") refl) is, (number_text _ _ reserve told.0, (number_text _ _ floor told.1, (number_text _ _ places told.2, tt))))
+      let spelled = heading_spelled (number_within BID_MIN BID_MAX reserve) (number_within 0 FLOOR_MAX floor) (number_within 1 PLACES_MAX places) (λ e. h (rw is e)) in
+      (word_text word (codes "auction") (ascii_text (codes "auction") refl) is, (number_text _ _ reserve spelled.0, (number_text _ _ floor spelled.1, (number_text _ _ places spelled.2, tt))))
   | inr other ↦ absurd (h (rw other refl))
 ]
 heading_fields _ h = absurd (h refl)
 
-name_told : (account campaign line : Option ℕ) → name_from account campaign line ≢ None → (account ≢ None) × (campaign ≢ None) × (line ≢ None)
-name_told (Some a) (Some c) (Some l) h = (λ e. cc, λ e. cc, λ e. cc)
-name_told _ _ _ h = absurd (h refl)
+name_spelled : (account campaign line : Option ℕ) → name_from account campaign line ≢ None → (account ≢ None) × (campaign ≢ None) × (line ≢ None)
+name_spelled (Some a) (Some c) (Some l) h = (λ e. cc, λ e. cc, λ e. cc)
+name_spelled _ _ _ h = absurd (h refl)
 
 name_parts : (parts : List (List ℕ)) → name_of_parts parts ≢ None → All IsUtf8 parts
 name_parts (account ∷ campaign ∷ line ∷ []) h =
-    let told = name_told (number_within 1 NUMBER_MAX account) (number_within 1 NUMBER_MAX campaign) (number_within 1 NUMBER_MAX line) h in
-    (number_text _ _ account told.0, (number_text _ _ campaign told.1, (number_text _ _ line told.2, tt)))
+    let spelled = name_spelled (number_within 1 NUMBER_MAX account) (number_within 1 NUMBER_MAX campaign) (number_within 1 NUMBER_MAX line) h in
+    (number_text _ _ account spelled.0, (number_text _ _ campaign spelled.1, (number_text _ _ line spelled.2, tt)))
 name_parts _ h = absurd (h refl)
 
 name_text : (text : List ℕ) → name_in text ≢ None → IsUtf8 text
 unfolding name_in
 name_text text h = parts_text text (name_parts (parts text) h)
 
-ad_told : (name : Option LineName) (bid quality free : Option ℕ) → ad_from name bid quality free ≢ None →
+ad_spelled : (name : Option LineName) (bid quality free : Option ℕ) → ad_from name bid quality free ≢ None →
     (name ≢ None) × (bid ≢ None) × (quality ≢ None) × (free ≢ None)
-ad_told (Some n) (Some b) (Some q) (Some f) h = (λ e. cc, λ e. cc, λ e. cc, λ e. cc)
-ad_told _ _ _ _ h = absurd (h refl)
+ad_spelled (Some n) (Some b) (Some q) (Some f) h = (λ e. cc, λ e. cc, λ e. cc, λ e. cc)
+ad_spelled _ _ _ _ h = absurd (h refl)
 
 ad_fields : (fields : List (List ℕ)) → ad_of_fields fields ≢ None → All IsUtf8 fields
 ad_fields (word ∷ name ∷ bid ∷ quality ∷ free ∷ []) h = elim (cases_Bool (bytes_eq word (codes "ad"))) [
   | inl is ↦
-      let told = ad_told (name_in name) (number_within BID_MIN BID_MAX bid) (number_within QUALITY_MIN QUALITY_MAX quality) (number_within 0 FREE_MAX free) (λ e. h (rw is e)) in
-      (word_text word (codes "ad") (ascii_text (codes "ad") refl) is, (name_text name told.0, (number_text _ _ bid told.1, (number_text _ _ quality told.2, (number_text _ _ free told.3, tt)))))
+      let spelled = ad_spelled (name_in name) (number_within BID_MIN BID_MAX bid) (number_within QUALITY_MIN QUALITY_MAX quality) (number_within 0 FREE_MAX free) (λ e. h (rw is e)) in
+      (word_text word (codes "ad") (ascii_text (codes "ad") refl) is, (name_text name spelled.0, (number_text _ _ bid spelled.1, (number_text _ _ quality spelled.2, (number_text _ _ free spelled.3, tt)))))
   | inr other ↦ absurd (h (rw other refl))
 ]
 ad_fields _ h = absurd (h refl)
@@ -120,12 +120,12 @@ pub heading_of_no_text : (line : List ℕ) → ¬ (IsUtf8 line) → heading_in l
 unfolding heading_in
 heading_of_no_text line other = elim (cases_Bool (has_outer_space line)) [
   | inl is ↦ rw is refl
-  | inr none ↦ rw none (none_from (heading_of_fields (fields line)) (λ told. other (fields_text line (heading_fields (fields line) told))))
+  | inr none ↦ rw none (none_from (heading_of_fields (fields line)) (λ spelled. other (fields_text line (heading_fields (fields line) spelled))))
 ]
 
 pub ad_of_no_text : (line : List ℕ) → ¬ (IsUtf8 line) → ad_in line ≡ None
 unfolding ad_in
 ad_of_no_text line other = elim (cases_Bool (has_outer_space line)) [
   | inl is ↦ rw is refl
-  | inr none ↦ rw none (none_from (ad_of_fields (fields line)) (λ told. other (fields_text line (ad_fields (fields line) told))))
+  | inr none ↦ rw none (none_from (ad_of_fields (fields line)) (λ spelled. other (fields_text line (ad_fields (fields line) spelled))))
 ]

@@ -9,18 +9,18 @@ use Rattle.desk_cli.specs.declared.fault.LineFault.{LineFault}
 use Rattle.desk_cli.specs.declared.fault.ReadEnd.{ReadEnd}
 use Rattle.desk_cli.specs.declared.fault.ReadEnd.TheVariants.{Fault, ReadFault, NoMemory}
 use Rattle.desk_cli.specs.declared.auction.Auction.{Auction}
-use Rattle.desk_cli.specs.Judged.{AuctionValue, told_by}
-use Rattle.desk_cli.specs.Outcome.{Outcome, outcome_of}
+use Rattle.desk_cli.specs.AuctionValue.{AuctionValue, spelled_by}
+use Rattle.desk_cli.specs.Printout.{Printout, printout_of}
 
 abbrev pub auction_value : Auction → AuctionValue
 auction_value a = record { heading = a.heading; ads = a.ads.items }
 
--- reading ended with what the bytes tell, or by a fault of reading, or for want of memory
+-- reading ended with what the bytes spell, or by a fault of reading, or for want of memory
 abbrev pub ReadsAs : Result AuctionValue LineFault → Result Auction ReadEnd → Type 0
-ReadsAs told (Ok found) = told ≡ Ok (auction_value found)
-ReadsAs told (Err (Fault fault)) = told ≡ Err fault
-ReadsAs told (Err ReadFault) = Unit {0}
-ReadsAs told (Err NoMemory) = Unit {0}
+ReadsAs spelled (Ok found) = spelled ≡ Ok (auction_value found)
+ReadsAs spelled (Err (Fault fault)) = spelled ≡ Err fault
+ReadsAs spelled (Err ReadFault) = Unit {0}
+ReadsAs spelled (Err NoMemory) = Unit {0}
 
 -- a fault of reading comes only where the count rose
 abbrev pub ReadEndCause : ℕ → ℕ → ReadEnd → Type 0
@@ -32,54 +32,54 @@ ReadEndCause before now NoMemory = Unit {0}
 abbrev pub AreWord : List ℕ → List (List ℕ) → Type 0
 AreWord word words = words ≡ word ∷ []
 
-abbrev pub refused_outcome : Outcome
-refused_outcome = record { output = codes "words refused\n"; status = 2 }
+abbrev pub refused_printout : Printout
+refused_printout = record { text = codes "words refused\n"; status = 2 }
 
-abbrev pub read_fault_outcome : Outcome
-read_fault_outcome = record { output = codes "read fault\n"; status = 3 }
+abbrev pub read_fault_printout : Printout
+read_fault_printout = record { text = codes "read fault\n"; status = 3 }
 
 -- a read failed
-pub record IsReadFault (source source_now : SourceView) (outcome : Outcome) : Type 0 where
+pub record IsReadFault (source source_now : SourceView) (printout : Printout) : Type 0 where
   pub rose : Rose source.faults source_now.faults
-  pub is : outcome ≡ read_fault_outcome
+  pub is : printout ≡ read_fault_printout
 
--- the outcome is that of what the input's bytes tell, where the input tells them
-pub record IsJudged (source : SourceView) (outcome : Outcome) : Type 0 where
-  pub told : Result AuctionValue LineFault
-  pub is : outcome ≡ outcome_of told
-  pub bytes_tell : IfSome source.left (λ bytes. told_by (lines bytes) ≡ told)
+-- the printout is that of what the input's bytes spell, where the input tells them
+pub record IsJudged (source : SourceView) (printout : Printout) : Type 0 where
+  pub spelled : Result AuctionValue LineFault
+  pub is : printout ≡ printout_of spelled
+  pub bytes_spell : IfSome source.left (λ bytes. spelled_by (lines bytes) ≡ spelled)
 
--- the outcome of an auction, by its input
-abbrev pub IsAuctionOutcome : SourceView → SourceView → Outcome → Type 0
-IsAuctionOutcome source source_now outcome = IsReadFault source source_now outcome ⊎ IsJudged source outcome
+-- the printout of an auction, by its input
+abbrev pub IsAuctionPrintout : SourceView → SourceView → Printout → Type 0
+IsAuctionPrintout source source_now printout = IsReadFault source source_now printout ⊎ IsJudged source printout
 
--- all of the outcome is written, and its status answered
-pub record IsAllWritten (sink sink_now : SinkView) (outcome : Outcome) (status : ℕ) : Type 0 where
-  pub answered : status ≡ outcome.status
-  pub appended : Appends sink sink_now outcome.output
+-- all of the printout is written, and its status answered
+pub record IsAllWritten (sink sink_now : SinkView) (printout : Printout) (status : ℕ) : Type 0 where
+  pub answered : status ≡ printout.status
+  pub appended : Appends sink sink_now printout.text
 
--- a write failed: a beginning of the outcome is written, and not all of it
-pub record IsCutOff (sink sink_now : SinkView) (outcome : Outcome) (status : ℕ) : Type 0 where
+-- a write failed: a beginning of the printout is written, and not all of it
+pub record IsBrokenOff (sink sink_now : SinkView) (printout : Printout) (status : ℕ) : Type 0 where
   pub answered : status ≡ 4
   pub rose : Rose sink.faults sink_now.faults
   pub sent : List ℕ
-  pub beginning : IsProperPrefix sent outcome.output
+  pub beginning : IsProperPrefix sent printout.text
   pub appended : Appends sink sink_now sent
 
--- memory was wanting: nothing is written
-pub record IsWanting (sink sink_now : SinkView) (status : ℕ) : Type 0 where
+-- want of memory: nothing is written
+pub record IsNoMemory (sink sink_now : SinkView) (status : ℕ) : Type 0 where
   pub answered : status ≡ 5
   pub nothing : AppendsNothing sink sink_now
 
--- how much of an outcome is written, and the status that is answered
-abbrev pub IsWritten : SinkView → SinkView → Outcome → ℕ → Type 0
-IsWritten sink sink_now outcome status =
-    (IsAllWritten sink sink_now outcome status
-    ⊎ IsCutOff sink sink_now outcome status)
-    ⊎ IsWanting sink sink_now status
+-- how much of a printout is written, and the status that is answered
+abbrev pub IsWritten : SinkView → SinkView → Printout → ℕ → Type 0
+IsWritten sink sink_now printout status =
+    (IsAllWritten sink sink_now printout status
+    ⊎ IsBrokenOff sink sink_now printout status)
+    ⊎ IsNoMemory sink sink_now status
 
 -- what waited is written and the status answered; or a write failed and a beginning of it is written, and not all
 abbrev pub IsSaid : SinkView → SinkView → List ℕ → ℕ → ℕ → Type 0
 IsSaid sink sink_now waiting status result =
-    IsAllWritten sink sink_now (record { output = waiting; status = status }) result
-    ⊎ IsCutOff sink sink_now (record { output = waiting; status = status }) result
+    IsAllWritten sink sink_now (record { text = waiting; status = status }) result
+    ⊎ IsBrokenOff sink sink_now (record { text = waiting; status = status }) result

@@ -6,19 +6,19 @@ use Rattle.desk_cli.specs.declared.limits.TheConstants.{NUMBER_MAX, FREE_MAX}
 use Rattle.desk_cli.specs.HeadingValue.{HeadingValue}
 use Rattle.desk_cli.specs.declared.form.LineName.{LineName}
 use Rattle.desk_cli.specs.declared.form.AdLine.{AdLine}
-use Rattle.script_api.specs.Fields.{fields}
+use Rattle.script_api.specs.LineFields.{fields}
 use Rattle.script_api.specs.Number.{number_within}
 
 -- whether a space stands at an end of the line
 unfoldable pub has_outer_space : List ℕ → Bool
 has_outer_space line = slice_index line 0 == 32 || slice_index line (length line - 1) == 32
 
--- the heading of three numbers, where each is told
+-- the heading of three numbers, where each is spelled
 abbrev pub heading_from : Option ℕ → Option ℕ → Option ℕ → Option HeadingValue
 heading_from (Some reserve) (Some floor) (Some places) = Some (record { reserve = reserve; floor = floor; places = places })
 heading_from _ _ _ = None
 
--- the heading that the fields `auction RESERVE FLOOR PLACES` tell
+-- the heading that the fields `auction RESERVE FLOOR PLACES` spell
 abbrev pub heading_of_fields : List (List ℕ) → Option HeadingValue
 heading_of_fields (word ∷ reserve ∷ floor ∷ places ∷ []) =
     if bytes_eq word (codes "auction")
@@ -26,11 +26,11 @@ heading_of_fields (word ∷ reserve ∷ floor ∷ places ∷ []) =
     else None
 heading_of_fields _ = None
 
--- the heading that a line tells, if it is one
+-- the heading that a line spells, if it is one
 unfoldable pub heading_in : List ℕ → Option HeadingValue
 heading_in line = if has_outer_space line then None else heading_of_fields (fields line)
 
--- the name of three numbers, where each is told
+-- the name of three numbers, where each is spelled
 abbrev pub name_from : Option ℕ → Option ℕ → Option ℕ → Option LineName
 name_from (Some account) (Some campaign) (Some line) = Some (record { account = account; campaign = campaign; line = line })
 name_from _ _ _ = None
@@ -45,11 +45,11 @@ name_of_parts _ = None
 unfoldable pub parts : List ℕ → List (List ℕ)
 parts text = slice_split (λ byte. byte == 46) text
 
--- the name that a text tells, if it is one
+-- the name that a text spells, if it is one
 unfoldable pub name_in : List ℕ → Option LineName
 name_in text = name_of_parts (parts text)
 
--- the ad of a name and three numbers, where each is told
+-- the ad of a name and three numbers, where each is spelled
 abbrev pub ad_from : Option LineName → Option ℕ → Option ℕ → Option ℕ → Option AdLine
 ad_from (Some name) (Some bid) (Some quality) (Some free) =
     Some (record {
@@ -58,7 +58,7 @@ ad_from (Some name) (Some bid) (Some quality) (Some free) =
     })
 ad_from _ _ _ _ = None
 
--- the ad that the fields `ad ACCOUNT.CAMPAIGN.LINE BID QUALITY FREE` tell
+-- the ad that the fields `ad ACCOUNT.CAMPAIGN.LINE BID QUALITY FREE` spell
 abbrev pub ad_of_fields : List (List ℕ) → Option AdLine
 ad_of_fields (word ∷ name ∷ bid ∷ quality ∷ free ∷ []) =
     if bytes_eq word (codes "ad")
@@ -66,6 +66,6 @@ ad_of_fields (word ∷ name ∷ bid ∷ quality ∷ free ∷ []) =
     else None
 ad_of_fields _ = None
 
--- the ad that a line tells, if it is one
+-- the ad that a line spells, if it is one
 unfoldable pub ad_in : List ℕ → Option AdLine
 ad_in line = if has_outer_space line then None else ad_of_fields (fields line)

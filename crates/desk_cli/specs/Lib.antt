@@ -1,10 +1,10 @@
 pub mod HeadingValue
 pub mod Form
-pub mod Meets
-pub mod Told
-pub mod Judged
+pub mod MeetsHeading
+pub mod AuctionLines
+pub mod AuctionValue
 pub mod Running
-pub mod Outcome
+pub mod Printout
 pub mod Ending
 pub mod ScriptCall
 pub mod TopCall

@@ -14,12 +14,12 @@ use Rattle.script_api.specs.declared.ending.ScriptEnd.{ScriptEnd}
 use Rattle.script_api.specs.declared.ending.ScriptEnd.TheVariants.{Ended, BadLine, LongLine, TooManyLines, NotBuilt, ReadFault, WriteFault, NoMemory}
 use Rattle.script_api.specs.ScriptRun.{EndCause, IsRun}
 use Rattle.desk_cli.specs.declared.fault.LineFault.TheVariants as line
-use Rattle.desk_cli.specs.Ending.{IsWritten, read_fault_outcome}
-use Rattle.desk_cli.specs.Outcome.{Outcome, fault_outcome}
+use Rattle.desk_cli.specs.Ending.{IsWritten, read_fault_printout}
+use Rattle.desk_cli.specs.Printout.{Printout, fault_printout}
 
 -- the last line of a script that names a command of which no call can be made yet, and the status
-abbrev pub not_built_outcome : ℕ → Outcome
-not_built_outcome number = record { output = codes "not built " ++ (decimal number ++ codes "\n"); status = 8 }
+abbrev pub not_built_printout : ℕ → Printout
+not_built_printout number = record { text = codes "not built " ++ (decimal number ++ codes "\n"); status = 8 }
 
 -- nothing more is written, and this status is answered
 pub record IsSilent (wanted : ℕ) (sink sink_now : SinkView) (status : ℕ) : Type 0 where
@@ -29,11 +29,11 @@ pub record IsSilent (wanted : ℕ) (sink sink_now : SinkView) (status : ℕ) : T
 -- what is written behind the answers of a script, by its end, and the status
 abbrev pub IsLastSaid : SinkView → SinkView → ScriptEnd → ℕ → Type 0
 IsLastSaid sink sink_now Ended status = IsSilent 0 sink sink_now status
-IsLastSaid sink sink_now (BadLine number) status = IsWritten sink sink_now (fault_outcome (line.BadLine number)) status
-IsLastSaid sink sink_now (LongLine number) status = IsWritten sink sink_now (fault_outcome (line.LongLine number)) status
-IsLastSaid sink sink_now TooManyLines status = IsWritten sink sink_now (fault_outcome line.TooManyLines) status
-IsLastSaid sink sink_now (NotBuilt number) status = IsWritten sink sink_now (not_built_outcome number) status
-IsLastSaid sink sink_now ReadFault status = IsWritten sink sink_now read_fault_outcome status
+IsLastSaid sink sink_now (BadLine number) status = IsWritten sink sink_now (fault_printout (line.BadLine number)) status
+IsLastSaid sink sink_now (LongLine number) status = IsWritten sink sink_now (fault_printout (line.LongLine number)) status
+IsLastSaid sink sink_now TooManyLines status = IsWritten sink sink_now (fault_printout line.TooManyLines) status
+IsLastSaid sink sink_now (NotBuilt number) status = IsWritten sink sink_now (not_built_printout number) status
+IsLastSaid sink sink_now ReadFault status = IsWritten sink sink_now read_fault_printout status
 IsLastSaid sink sink_now WriteFault status = IsSilent 4 sink sink_now status
 IsLastSaid sink sink_now NoMemory status = IsSilent 5 sink sink_now status
 

@@ -6,23 +6,23 @@ use Rattle.desk_types.specs.SettingsValue.{usual}
 use Rattle.desk_core.specs.DeskValue.{DeskValue}
 use Rattle.desk_core.specs.SoloValue.{AreOwn}
 use Rattle.desk_cli.specs.declared.script.Served.{Served}
-use Rattle.desk_cli.specs.Ending.{AreWord, IsAuctionOutcome, IsWritten, refused_outcome}
-use Rattle.desk_cli.specs.Outcome.{Outcome}
+use Rattle.desk_cli.specs.Ending.{AreWord, IsAuctionPrintout, IsWritten, refused_printout}
+use Rattle.desk_cli.specs.Printout.{Printout}
 use Rattle.desk_cli.specs.ScriptCall.{IsFairThroughout, IsScriptServed}
 
 -- the words are none that the program takes, and it says so
 pub record IsRefused (words : List (List ℕ)) (sink sink_now : SinkView) (served : Served) : Type 0 where
   pub no_auction : ¬ (AreWord (codes "auction") words)
   pub no_script : ¬ (AreWord (codes "script") words)
-  pub said : IsWritten sink sink_now refused_outcome served.status
+  pub said : IsWritten sink sink_now refused_printout served.status
   pub no_desk : served.desk ≡ None
 
--- the word is `auction`, and the outcome of the auction is written
+-- the word is `auction`, and the printout of the auction is written
 pub record IsAuction (words : List (List ℕ)) (source source_now : SourceView) (sink sink_now : SinkView) (served : Served) : Type 0 where
   pub words_are : AreWord (codes "auction") words
-  pub outcome : Outcome
-  pub judged : IsAuctionOutcome source source_now outcome
-  pub said : IsWritten sink sink_now outcome served.status
+  pub printout : Printout
+  pub judged : IsAuctionPrintout source source_now printout
+  pub said : IsWritten sink sink_now printout served.status
   pub no_desk : served.desk ≡ None
 
 -- the word is `script`, and the script is served by a desk with the usual settings, whose entries are all the caller's
@@ -36,8 +36,8 @@ pub record IsScript (words : List (List ℕ)) (source source_now : SourceView) (
   pub fair : IsFairThroughout desk
 
 -- how a call ends, by its words
-abbrev pub Ends : List (List ℕ) → SourceView → SourceView → SinkView → SinkView → Served → Type 0
-Ends words source source_now sink sink_now served =
+abbrev pub CallEnds : List (List ℕ) → SourceView → SourceView → SinkView → SinkView → Served → Type 0
+CallEnds words source source_now sink sink_now served =
     (IsAuction words source source_now sink sink_now served
     ⊎ IsScript words source source_now sink sink_now served)
     ⊎ IsRefused words sink sink_now served

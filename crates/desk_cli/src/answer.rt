@@ -2,14 +2,14 @@
 
 ghost use Rattle.std.specs.Prelude.{◌≡◌, ◌≤◌, All, codes, string_bytes, IfOk};
 ghost use Rattle.desk_cli.specs.Ending.{IsSaid, IsWritten, auction_value};
-ghost use Rattle.desk_cli.specs.Outcome.{fault_text, fault_status, page_text as text_of_page};
-ghost use Rattle.desk_cli.specs.Meets.{Meets};
+ghost use Rattle.desk_cli.specs.Printout.{line_fault_text, fault_status, auction_page_text};
+ghost use Rattle.desk_cli.specs.MeetsHeading.{MeetsHeading};
 
 use crate::auction::Auction;
 use crate::fault::LineFault;
-use crate::page::page_text;
+use crate::page::auction_page;
 use desk_io::{OutBuf, Sink};
-use std::alloc::{AllocError, Global};
+use std::alloc::{AllocError as NoMemory, Global};
 
 /// The text that a call writes, and the status that it answers.
 #[derive(Drop)]
@@ -19,21 +19,21 @@ pub struct Answer {
 }
 
 /// The answer to an auction: its page, with status 0.
-pub fn page_answer(alloc: Global, auction: &Auction) -> Result<Answer, AllocError>
-    requires { All (Meets auction.now.heading) auction.now.ads.items }
-    ensures text { IfOk result (λ answer. string_bytes answer.text ≡ text_of_page (auction_value auction.now)) }
+pub fn page_answer(alloc: Global, auction: &Auction) -> Result<Answer, NoMemory>
+    requires { All (MeetsHeading auction.now.heading) auction.now.ads.items }
+    ensures text { IfOk result (λ answer. string_bytes answer.text ≡ auction_page_text (auction_value auction.now)) }
     ensures status { IfOk result (λ answer. answer.status ≡ 0) }
 {
     Ok(Answer {
-        text: page_text(alloc, auction)?,
+        text: auction_page(alloc, auction)?,
         status: 0,
     })
 }
 
 /// The answer to an input that is no auction: a line that says why, with status 8 or 9.
-#[tactic(auto, unfolding(crate::specs::Outcome::fault_text, crate::specs::Outcome::fault_status))]
-pub fn fault_answer(alloc: Global, fault: LineFault) -> Result<Answer, AllocError>
-    ensures text { IfOk result (λ answer. string_bytes answer.text ≡ fault_text fault) }
+#[tactic(auto, unfolding(crate::specs::Printout::line_fault_text, crate::specs::Printout::fault_status))]
+pub fn fault_answer(alloc: Global, fault: LineFault) -> Result<Answer, NoMemory>
+    ensures text { IfOk result (λ answer. string_bytes answer.text ≡ line_fault_text fault) }
     ensures status { IfOk result (λ answer. answer.status ≡ fault_status fault) }
 {
     match fault {
@@ -53,7 +53,7 @@ pub fn fault_answer(alloc: Global, fault: LineFault) -> Result<Answer, AllocErro
 }
 
 /// The answer where a read failed, with status 3.
-pub fn read_fault_answer(alloc: Global) -> Result<Answer, AllocError>
+pub fn read_fault_answer(alloc: Global) -> Result<Answer, NoMemory>
     ensures text { IfOk result (λ answer. string_bytes answer.text ≡ codes "read fault\n") }
     ensures status { IfOk result (λ answer. answer.status ≡ 3) }
 {
@@ -65,7 +65,7 @@ pub fn read_fault_answer(alloc: Global) -> Result<Answer, AllocError>
 
 /// Writes a text and answers the status; 4 where a write failed, and 5 for want of memory.
 pub fn say<T: Sink>(alloc: Global, output: &mut T, text: &str, status: u8) -> u8
-    ensures written { IsWritten (T.sink output.old) (T.sink output.new) (record { output = text.now; status = status }) result }
+    ensures written { IsWritten (T.sink output.old) (T.sink output.new) (record { text = text.now; status = status }) result }
     ensures faults { (T.sink output.old).faults ≤ (T.sink output.new).faults }
 {
     let Ok(mut out) = OutBuf::new(alloc) else {

@@ -6,16 +6,16 @@ ghost use Rattle.std.specs.Prelude.{◌≡◌, ◌≤◌, ◌+◌, [], All, Ok, 
 ghost use Rattle.desk_io.specs.Lines.{lines};
 ghost use Rattle.desk_io.specs.NextLine.{ahead};
 ghost use Rattle.desk_cli.specs.Ending.{ReadEndCause, ReadsAs};
-ghost use Rattle.desk_cli.specs.Judged.{told_by};
-ghost use Rattle.desk_cli.specs.Meets.{Meets};
-ghost use Rattle.desk_cli.specs.Running.{EndsThere, Tells, Turned, end_of, told_from};
+ghost use Rattle.desk_cli.specs.AuctionValue.{spelled_by};
+ghost use Rattle.desk_cli.specs.MeetsHeading.{MeetsHeading};
+ghost use Rattle.desk_cli.specs.Running.{EndStands, Spells, Turned, end_of, spelled_from};
 
 use crate::fault::{LineFault, ReadEnd};
 use crate::heading::Heading;
-use crate::reading::Reading;
+use crate::reading::AuctionReading;
 use desk_io::{LineGot, LineReader, Source};
 use desk_types::Ad;
-use script_api::limits::{LINE_MAX, LINES_MAX};
+use script_api::limits::{INPUT_LINES_MAX, LINE_BYTES_MAX};
 use std::alloc::Global;
 
 /// An auction: its heading and its eligible ads, in the order of their lines.
@@ -27,16 +27,16 @@ pub struct Auction {
 
 /// Reads an auction to the end of the input or to the first line with a fault.
 pub fn read_auction<S: Source>(alloc: Global, input: &mut S) -> Result<Auction, ReadEnd>
-    ensures told { IfSome (S.source input.old).left (λ bytes. ReadsAs (told_by (lines bytes)) result) }
-    ensures meets { IfOk result (λ auction. All (Meets auction.heading) auction.ads.items) }
+    ensures spelled { IfSome (S.source input.old).left (λ bytes. ReadsAs (spelled_by (lines bytes)) result) }
+    ensures meets { IfOk result (λ auction. All (MeetsHeading auction.heading) auction.ads.items) }
     ensures all_read { OnOk result (IfSome (S.source input.new).left (λ bytes. bytes ≡ [])) }
     ensures cause { IfErr result (ReadEndCause (S.source input.old).faults (S.source input.new).faults) }
     ensures faults { (S.source input.old).faults ≤ (S.source input.new).faults }
 {
-    let Ok(mut reader) = LineReader::new(alloc, LINE_MAX) else {
+    let Ok(mut reader) = LineReader::new(alloc, LINE_BYTES_MAX) else {
         return Err(ReadEnd::NoMemory);
     };
-    let mut reading = Reading::new(alloc);
+    let mut reading = AuctionReading::new(alloc);
     match read_lines(&mut reader, &mut reading, input) {
         Ok(number) => reading.end(number),
         Err(end) => Err(end),
@@ -46,22 +46,22 @@ pub fn read_auction<S: Source>(alloc: Global, input: &mut S) -> Result<Auction, 
 /// Takes the lines of the input, and answers the number of the line in whose place the end stands.
 fn read_lines<S: Source>(
     reader: &mut LineReader,
-    reading: &mut Reading,
+    reading: &mut AuctionReading,
     input: &mut S,
 ) -> Result<u64, ReadEnd>
-    requires max { reader.old.max ≡ LINE_MAX }
-    ensures told { IfSome (ahead reader.old (S.source input.old).left) (λ bytes. Tells (told_from reading.old 1 bytes) reading.new result) }
+    requires max { reader.old.max ≡ LINE_BYTES_MAX }
+    ensures spelled { IfSome (ahead reader.old (S.source input.old).left) (λ bytes. Spells (spelled_from reading.old 1 bytes) reading.new result) }
     ensures all_read { OnOk result (IfSome (S.source input.new).left (λ bytes. bytes ≡ [])) }
     ensures cause { IfErr result (ReadEndCause (S.source input.old).faults (S.source input.new).faults) }
     ensures faults { (S.source input.old).faults ≤ (S.source input.new).faults }
 {
-    for number in 1..LINES_MAX + 1 {
+    for number in 1..INPUT_LINES_MAX + 1 {
         if !take_line(reader, reading, input, number)? {
             return Ok(number);
         }
     }
     match take_end(reader, input) {
-        Ok(()) => Ok(LINES_MAX + 1),
+        Ok(()) => Ok(INPUT_LINES_MAX + 1),
         Err(end) => Err(end),
     }
 }
@@ -69,14 +69,14 @@ fn read_lines<S: Source>(
 /// Takes the numbered line, or answers `false` where the end stands in its place.
 fn take_line<S: Source>(
     reader: &mut LineReader,
-    reading: &mut Reading,
+    reading: &mut AuctionReading,
     input: &mut S,
     number: u64,
 ) -> Result<bool, ReadEnd>
-    requires number { (1 ≤ number) × (number ≤ LINES_MAX) }
-    requires max { reader.old.max ≡ LINE_MAX }
-    ensures max { reader.new.max ≡ LINE_MAX }
-    ensures turned { Turned (option_map (told_from reading.old number) (ahead reader.old (S.source input.old).left)) (option_map (told_from reading.new (number + 1)) (ahead reader.new (S.source input.new).left)) (end_of reading.new.heading number reading.new.eligible) result }
+    requires number { (1 ≤ number) × (number ≤ INPUT_LINES_MAX) }
+    requires max { reader.old.max ≡ LINE_BYTES_MAX }
+    ensures max { reader.new.max ≡ LINE_BYTES_MAX }
+    ensures turned { Turned (option_map (spelled_from reading.old number) (ahead reader.old (S.source input.old).left)) (option_map (spelled_from reading.new (number + 1)) (ahead reader.new (S.source input.new).left)) (end_of reading.new.heading number reading.new.eligible) result }
     ensures all_read { IfOk result (λ more. OnFalse more (IfSome (S.source input.new).left (λ bytes. bytes ≡ []))) }
     ensures cause { IfErr result (ReadEndCause (S.source input.old).faults (S.source input.new).faults) }
     ensures faults { (S.source input.old).faults ≤ (S.source input.new).faults }
@@ -94,8 +94,8 @@ fn take_line<S: Source>(
 
 /// Sees that the end stands behind the last line that may be.
 fn take_end<S: Source>(reader: &mut LineReader, input: &mut S) -> Result<(), ReadEnd>
-    requires max { reader.old.max ≡ LINE_MAX }
-    ensures ends { EndsThere (ahead reader.old (S.source input.old).left) result }
+    requires max { reader.old.max ≡ LINE_BYTES_MAX }
+    ensures ends { EndStands (ahead reader.old (S.source input.old).left) result }
     ensures all_read { OnOk result (IfSome (S.source input.new).left (λ bytes. bytes ≡ [])) }
     ensures cause { IfErr result (ReadEndCause (S.source input.old).faults (S.source input.new).faults) }
     ensures faults { (S.source input.old).faults ≤ (S.source input.new).faults }

@@ -21,7 +21,7 @@ pub struct LineName {
     pub line: u64,
 }
 
-/// What a line of an auction tells of an ad.
+/// What a line of an auction spells of an ad.
 #[derive(Clone, Copy, Debug, PartialEq, Eq)]
 pub struct AdLine {
     pub ad: Ad,
@@ -56,9 +56,9 @@ fn has_outer_space(line: &[u8]) -> bool
     line[line.len() - 1] == b' '
 }
 
-/// The heading that a line tells: `auction RESERVE FLOOR PLACES`, or `None` where it is in another form.
+/// The heading that a line spells: `auction RESERVE FLOOR PLACES`, or `None` where it is in another form.
 #[tactic(auto, unfolding(crate::specs::Form::heading_in), using(crate::proofs::FormLemmas::no_heading, crate::proofs::TextLemmas::heading_of_no_text))]
-pub fn heading_of(line: &[u8]) -> Option<Heading>
+pub fn read_heading(line: &[u8]) -> Option<Heading>
     ensures { result ≡ heading_in line.now }
 {
     if has_outer_space(line) {
@@ -77,7 +77,7 @@ pub fn heading_of(line: &[u8]) -> Option<Heading>
     made_heading(reserve, floor, places)
 }
 
-/// The heading of three numbers, where each is told.
+/// The heading of three numbers, where each is spelled.
 fn made_heading(reserve: Option<u64>, floor: Option<u64>, places: Option<u64>) -> Option<Heading>
     requires reserve { IfSome reserve IsReserve }
     requires floor { IfSome floor IsFloor }
@@ -90,9 +90,9 @@ fn made_heading(reserve: Option<u64>, floor: Option<u64>, places: Option<u64>) -
     }
 }
 
-/// The name that a text tells: `ACCOUNT.CAMPAIGN.LINE`, or `None` where it is in another form.
+/// The name that a text spells: `ACCOUNT.CAMPAIGN.LINE`, or `None` where it is in another form.
 #[tactic(auto, unfolding(crate::specs::Form::name_in), using(crate::proofs::FormLemmas::no_name))]
-fn name_of(text: &str) -> Option<LineName>
+fn read_name(text: &str) -> Option<LineName>
     ensures { result ≡ name_in text.now }
 {
     let (account, campaign, line) = three_parts(text)?;
@@ -102,7 +102,7 @@ fn name_of(text: &str) -> Option<LineName>
     made_name(account, campaign, line)
 }
 
-/// The name of three numbers, where each is told.
+/// The name of three numbers, where each is spelled.
 fn made_name(account: Option<u64>, campaign: Option<u64>, line: Option<u64>) -> Option<LineName>
     ensures { result ≡ name_from account campaign line }
 {
@@ -116,9 +116,9 @@ fn made_name(account: Option<u64>, campaign: Option<u64>, line: Option<u64>) -> 
     }
 }
 
-/// The ad that a line tells: `ad ACCOUNT.CAMPAIGN.LINE BID QUALITY FREE`, or `None` where it is in another form.
+/// The ad that a line spells: `ad ACCOUNT.CAMPAIGN.LINE BID QUALITY FREE`, or `None` where it is in another form.
 #[tactic(auto, unfolding(crate::specs::Form::ad_in), using(crate::proofs::FormLemmas::no_ad, crate::proofs::TextLemmas::ad_of_no_text))]
-pub fn ad_of(line: &[u8]) -> Option<AdLine>
+pub fn read_ad(line: &[u8]) -> Option<AdLine>
     ensures { result ≡ ad_in line.now }
 {
     if has_outer_space(line) {
@@ -131,14 +131,14 @@ pub fn ad_of(line: &[u8]) -> Option<AdLine>
     if word != "ad" {
         return None;
     }
-    let name = name_of(name);
+    let name = read_name(name);
     let bid = number_in(bid.as_bytes(), BID_MIN, BID_MAX);
     let quality = number_in(quality.as_bytes(), QUALITY_MIN, QUALITY_MAX);
     let free = number_in(free.as_bytes(), 0, FREE_MAX);
     made_ad(name, bid, quality, free)
 }
 
-/// The ad of a name and three numbers, where each is told; the bid and the quality are in range where they are.
+/// The ad of a name and three numbers, where each is spelled; the bid and the quality are in range where they are.
 fn made_ad(
     name: Option<LineName>,
     bid: Option<u64>,

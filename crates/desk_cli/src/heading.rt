@@ -1,4 +1,4 @@
-//! What the first line of an auction tells.
+//! What the first line of an auction spells.
 
 ghost use Rattle.std.specs.Prelude.{◌≡◌};
 ghost use Rattle.desk_types.specs.SettingsValue.{IsReserve, IsFloor, IsPlaces};

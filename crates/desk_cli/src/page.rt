@@ -2,20 +2,20 @@
 
 ghost use Rattle.std.specs.Prelude.{◌≡◌, ◌++◌, All, IfOk, OnOk, string_bytes};
 ghost use Rattle.desk_cli.specs.Ending.{auction_value};
-ghost use Rattle.desk_cli.specs.Meets.{Meets};
-ghost use Rattle.desk_cli.specs.Outcome.{entrant_line, name_text, page_text as text_of_page};
+ghost use Rattle.desk_cli.specs.MeetsHeading.{MeetsHeading};
+ghost use Rattle.desk_cli.specs.Printout.{entrant_line, ad_name_text, auction_page_text};
 
 use crate::auction::Auction;
 use desk_types::Ad;
 use gsp_price::price;
 use rank_core::page_of;
-use std::alloc::{AllocError, Global};
+use std::alloc::{AllocError as NoMemory, Global};
 use std::fmt::Write;
 
 /// A line for each entrant on the page, `PLACE ACCOUNT.CAMPAIGN.LINE PRICE`, and the line `end`.
-pub fn page_text(alloc: Global, auction: &Auction) -> Result<String, AllocError>
-    requires { All (Meets auction.now.heading) auction.now.ads.items }
-    ensures { IfOk result (λ text. string_bytes text ≡ text_of_page (auction_value auction.now)) }
+pub fn auction_page(alloc: Global, auction: &Auction) -> Result<String, NoMemory>
+    requires { All (MeetsHeading auction.now.heading) auction.now.ads.items }
+    ensures { IfOk result (λ text. string_bytes text ≡ auction_page_text (auction_value auction.now)) }
 {
     let heading = &auction.heading;
     let reserve = heading.reserve();
@@ -31,7 +31,7 @@ pub fn page_text(alloc: Global, auction: &Auction) -> Result<String, AllocError>
 }
 
 /// Appends the line of an entrant: its place, its name and its price in cents.
-fn write_entrant(text: &mut String, place: u64, ad: &Ad, price: u64) -> Result<(), AllocError>
+fn write_entrant(text: &mut String, place: u64, ad: &Ad, price: u64) -> Result<(), NoMemory>
     ensures { OnOk result (string_bytes text.new ≡ string_bytes text.old ++ entrant_line place ad.now price) }
 {
     write!(text, "{place} ")?;
@@ -40,8 +40,8 @@ fn write_entrant(text: &mut String, place: u64, ad: &Ad, price: u64) -> Result<(
 }
 
 /// Appends the name of an ad's line.
-fn write_name(text: &mut String, ad: &Ad) -> Result<(), AllocError>
-    ensures { OnOk result (string_bytes text.new ≡ string_bytes text.old ++ name_text ad.now) }
+fn write_name(text: &mut String, ad: &Ad) -> Result<(), NoMemory>
+    ensures { OnOk result (string_bytes text.new ≡ string_bytes text.old ++ ad_name_text ad.now) }
 {
     let account = ad.account();
     let campaign = ad.campaign();

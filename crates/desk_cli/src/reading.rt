@@ -3,14 +3,14 @@
 ghost use Rattle.std.specs.Prelude.{◌≡◌, ◌≢◌, ◌∷◌, ◌++◌, [], None, Some, All, OnOk, OnErr, IfOk, IfErr};
 ghost use Rattle.desk_cli.specs.Ending.{ReadsAs};
 ghost use Rattle.desk_cli.specs.Form.{ad_in, heading_in};
-ghost use Rattle.desk_cli.specs.Meets.{Meets};
-ghost use Rattle.desk_cli.specs.Judged.{heading_fault};
-ghost use Rattle.desk_cli.specs.Running.{EndsBy, ad_fault_now, fault_now, end_of, kept_ads, name_fault, nothing_yet, spoken_step, step, with_ad};
-ghost use Rattle.desk_cli.specs.Told.{is_eligible};
+ghost use Rattle.desk_cli.specs.MeetsHeading.{MeetsHeading};
+ghost use Rattle.desk_cli.specs.AuctionValue.{heading_fault};
+ghost use Rattle.desk_cli.specs.Running.{EndsBy, ad_fault_now, fault_now, end_of, kept_ads, name_fault, nothing_yet, after_spoken, after_line, with_ad};
+ghost use Rattle.desk_cli.specs.AuctionLines.{is_eligible_under};
 
 use crate::auction::Auction;
 use crate::fault::{LineFault, ReadEnd};
-use crate::form::{AdLine, LineName, ad_of, heading_of};
+use crate::form::{AdLine, LineName, read_ad, read_heading};
 use crate::heading::Heading;
 use crate::limits::ADS_MAX;
 use desk_types::Ad;
@@ -19,17 +19,17 @@ use script_api::fields::is_skipped;
 use std::alloc::Global;
 use std::marker::Model;
 
-/// The heading, the names of all ads and the ads that are eligible, as the lines so far tell them.
+/// The heading, the names of all ads and the ads that are eligible, as the lines so far spell them.
 #[derive(Drop)]
-pub struct Reading {
+pub struct AuctionReading {
     heading: Option<Heading>,
     names: IndexSet<LineName>,
     eligible: Vec<Ad>,
 }
 
-impl Model for Reading {
+impl Model for AuctionReading {
     ghost use Rattle.desk_cli.specs.Running.{SoFar};
-    ghost use Rattle.desk_cli.specs.Meets.{AllMeet};
+    ghost use Rattle.desk_cli.specs.MeetsHeading.{AllMeet};
 
     ghost Value = { SoFar };
 
@@ -39,12 +39,12 @@ impl Model for Reading {
     ghost invariant = { λ r. AllMeet r.heading r.eligible.items };
 }
 
-impl Reading {
-    /// Nothing is told yet.
-    pub fn new(alloc: Global) -> Reading
+impl AuctionReading {
+    /// Nothing is spelled yet.
+    pub fn new(alloc: Global) -> AuctionReading
         ensures { result ≡ nothing_yet }
     {
-        Reading {
+        AuctionReading {
             heading: None,
             names: IndexSet::new(alloc),
             eligible: Vec::new(alloc),
@@ -54,9 +54,9 @@ impl Reading {
     /// Takes the text of the next line, whose number it is told.
     ///
     /// It fails where the line has a fault, or for want of memory; the reading is then over.
-    #[tactic(auto, unfolding(crate::specs::Running::fault_now, crate::specs::Running::step, crate::specs::Running::spoken_fault, crate::specs::Running::spoken_step))]
+    #[tactic(auto, unfolding(crate::specs::Running::fault_now, crate::specs::Running::after_line, crate::specs::Running::spoken_fault, crate::specs::Running::after_spoken))]
     pub fn take(&mut self, number: u64, text: &[u8]) -> Result<(), ReadEnd>
-        ensures taken { OnOk result ((fault_now self.old number text.now ≡ None) × (self.new ≡ step self.old text.now)) }
+        ensures taken { OnOk result ((fault_now self.old number text.now ≡ None) × (self.new ≡ after_line self.old text.now)) }
         ensures ended { IfErr result (EndsBy (fault_now self.old number text.now)) }
     {
         if is_skipped(text) {
@@ -68,17 +68,17 @@ impl Reading {
         }
     }
 
-    /// The heading, once a line told it.
+    /// The heading, once a line spelled it.
     pub fn heading(&self) -> Option<Heading>
         ensures { result ≡ self.now.heading }
     {
         self.heading
     }
 
-    /// The auction that the lines told, where the end stands in place of the numbered line.
+    /// The auction that the lines spelled, where the end stands in place of the numbered line.
     pub fn end(self, number: u64) -> Result<Auction, ReadEnd>
         ensures reads { ReadsAs (end_of self.heading number self.eligible) result }
-        ensures meets { IfOk result (λ auction. All (Meets auction.heading) auction.ads.items) }
+        ensures meets { IfOk result (λ auction. All (MeetsHeading auction.heading) auction.ads.items) }
         ensures no_read_fault { IfErr result (λ end. end ≢ ReadEnd.ReadFault) }
     {
         match self.heading {
@@ -91,13 +91,13 @@ impl Reading {
     }
 
     /// Takes the line of the heading.
-    #[tactic(auto, unfolding(crate::specs::Running::spoken_step))]
+    #[tactic(auto, unfolding(crate::specs::Running::after_spoken))]
     fn take_heading(&mut self, number: u64, text: &[u8]) -> Result<(), ReadEnd>
         requires { self.old.heading ≡ None }
-        ensures taken { OnOk result ((heading_fault number (heading_in text.now) ≡ None) × (self.new ≡ spoken_step None self.old text.now)) }
+        ensures taken { OnOk result ((heading_fault number (heading_in text.now) ≡ None) × (self.new ≡ after_spoken None self.old text.now)) }
         ensures ended { IfErr result (EndsBy (heading_fault number (heading_in text.now))) }
     {
-        match heading_of(text) {
+        match read_heading(text) {
             None => Err(ReadEnd::Fault(LineFault::BadLine(number))),
             Some(heading) => {
                 self.heading = Some(heading);
@@ -113,7 +113,7 @@ impl Reading {
         ensures taken { OnOk result ((ad_fault_now self.old number (ad_in text.now) ≡ None) × (self.new ≡ with_ad heading.now self.old (ad_in text.now))) }
         ensures ended { IfErr result (EndsBy (ad_fault_now self.old number (ad_in text.now))) }
     {
-        match ad_of(text) {
+        match read_ad(text) {
             None => Err(ReadEnd::Fault(LineFault::BadLine(number))),
             Some(line) => {
                 note_name(&mut self.names, line.name(), number)?;
@@ -145,7 +145,7 @@ fn note_name(names: &mut IndexSet<LineName>, name: LineName, number: u64) -> Res
 
 /// Puts an ad behind the earlier ones where it is eligible; else it is left out.
 fn keep(eligible: &mut Vec<Ad>, heading: &Heading, line: &AdLine) -> Result<(), ReadEnd>
-    ensures kept { OnOk result (eligible.new.items ≡ eligible.old.items ++ kept_ads (is_eligible heading.now line.now) line.now) }
+    ensures kept { OnOk result (eligible.new.items ≡ eligible.old.items ++ kept_ads (is_eligible_under heading.now line.now) line.now) }
     ensures same { OnErr result (eligible.new.items ≡ eligible.old.items) }
     ensures ended { IfErr result (λ end. end ≡ ReadEnd.NoMemory) }
 {
@@ -156,9 +156,9 @@ fn keep(eligible: &mut Vec<Ad>, heading: &Heading, line: &AdLine) -> Result<(), 
 }
 
 /// Whether an ad's bid meets the reserve, the floor and its campaign's free budget.
-#[tactic(auto, unfolding(crate::specs::Told::is_eligible))]
+#[tactic(auto, unfolding(crate::specs::AuctionLines::is_eligible_under))]
 fn admits(heading: &Heading, line: &AdLine) -> bool
-    ensures { result ≡ is_eligible heading.now line.now }
+    ensures { result ≡ is_eligible_under heading.now line.now }
 {
     let ad = &line.ad;
     heading.reserve() <= ad.bid() && heading.floor() <= ad.score() && ad.bid() <= line.free

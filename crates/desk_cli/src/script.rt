@@ -4,8 +4,8 @@ ghost use Rattle.std.specs.Prelude.{◌≡◌, ◌≤◌, [], string_bytes, IfOk
 ghost use Rattle.desk_types.specs.SettingsValue.{usual};
 ghost use Rattle.desk_core.specs.SoloValue.{AreOwn};
 ghost use Rattle.desk_cli.specs.Ending.{IsWritten};
-ghost use Rattle.desk_cli.specs.Outcome.{Outcome, fault_outcome};
-ghost use Rattle.desk_cli.specs.ScriptCall.{IsFairThroughout, IsLastSaid, IsScriptServed, not_built_outcome};
+ghost use Rattle.desk_cli.specs.Printout.{Printout, fault_printout};
+ghost use Rattle.desk_cli.specs.ScriptCall.{IsFairThroughout, IsLastSaid, IsScriptServed, not_built_printout};
 
 use crate::answer::{Answer, fault_answer, read_fault_answer, say};
 use crate::fault::LineFault;
@@ -13,7 +13,7 @@ use desk_core::{Desk, Solo};
 use desk_io::{Sink, Source};
 use desk_types::Settings;
 use script_api::{ScriptEnd, script};
-use std::alloc::{AllocError, Global};
+use std::alloc::{AllocError as NoMemory, Global};
 
 /// What a call of the program leaves.
 #[derive(Drop)]
@@ -61,15 +61,15 @@ fn say_end<T: Sink>(alloc: Global, output: &mut T, end: ScriptEnd) -> u8
 
 /// Writes the line of a fault, and answers its status.
 fn say_fault<T: Sink>(alloc: Global, output: &mut T, fault: LineFault) -> u8
-    ensures said { IsWritten (T.sink output.old) (T.sink output.new) (fault_outcome fault) result }
+    ensures said { IsWritten (T.sink output.old) (T.sink output.new) (fault_printout fault) result }
     ensures faults { (T.sink output.old).faults ≤ (T.sink output.new).faults }
 {
     say_answer(alloc, output, fault_answer(alloc, fault))
 }
 
 /// Writes an answer, and answers its status, or 5 where the answer wanted memory.
-fn say_answer<T: Sink>(alloc: Global, output: &mut T, answer: Result<Answer, AllocError>) -> u8
-    ensures said { (outcome : Outcome) → IfOk answer (λ made. (string_bytes made.text ≡ outcome.output) × (made.status ≡ outcome.status)) → IsWritten (T.sink output.old) (T.sink output.new) outcome result }
+fn say_answer<T: Sink>(alloc: Global, output: &mut T, answer: Result<Answer, NoMemory>) -> u8
+    ensures said { (printout : Printout) → IfOk answer (λ made. (string_bytes made.text ≡ printout.text) × (made.status ≡ printout.status)) → IsWritten (T.sink output.old) (T.sink output.new) printout result }
     ensures faults { (T.sink output.old).faults ≤ (T.sink output.new).faults }
 {
     match answer {
@@ -79,8 +79,8 @@ fn say_answer<T: Sink>(alloc: Global, output: &mut T, answer: Result<Answer, All
 }
 
 /// The answer to a script with a line of which no call can be made yet.
-fn not_built_answer(alloc: Global, number: u64) -> Result<Answer, AllocError>
-    ensures text { IfOk result (λ answer. string_bytes answer.text ≡ (not_built_outcome number).output) }
+fn not_built_answer(alloc: Global, number: u64) -> Result<Answer, NoMemory>
+    ensures text { IfOk result (λ answer. string_bytes answer.text ≡ (not_built_printout number).text) }
     ensures status { IfOk result (λ answer. answer.status ≡ 8) }
 {
     Ok(Answer {

@@ -2,7 +2,7 @@
 
 use crate::top::desk_top;
 use desk_io::{MemSink, MemSource};
-use std::alloc::{AllocError, Global};
+use std::alloc::{AllocError as NoMemory, Global};
 use std::process::Abort;
 use std::test::Fail;
 
@@ -40,13 +40,13 @@ const WHOLE: Way = Way {
 
 /// What a call wrote, and its status.
 #[derive(Drop)]
-struct Told {
+struct Wrote {
     status: u8,
     output: MemSink,
 }
 
 /// The numbers of the calls that are to fail.
-fn failing(alloc: Global, number: u64) -> Result<Vec<u64>, AllocError> {
+fn failing(alloc: Global, number: u64) -> Result<Vec<u64>, NoMemory> {
     let mut numbers = Vec::new(alloc);
     if number > 0 {
         numbers.push(number)?;
@@ -55,7 +55,7 @@ fn failing(alloc: Global, number: u64) -> Result<Vec<u64>, AllocError> {
 }
 
 /// The words as the program is given them.
-fn words_of(alloc: Global, words: &[&str]) -> Result<Vec<String>, AllocError> {
+fn words_of(alloc: Global, words: &[&str]) -> Result<Vec<String>, NoMemory> {
     let mut owned = Vec::new(alloc);
     for word in words {
         owned.push(String::from_str(alloc, word)?)?;
@@ -64,7 +64,7 @@ fn words_of(alloc: Global, words: &[&str]) -> Result<Vec<String>, AllocError> {
 }
 
 /// Calls the program on an input in memory.
-fn call(alloc: Global, words: &[&str], input: &[u8], way: Way) -> Result<Told, AllocError> {
+fn call(alloc: Global, words: &[&str], input: &[u8], way: Way) -> Result<Wrote, NoMemory> {
     let cut = way.cut.max(1);
     let words = words_of(alloc, words)?;
     let input = Vec::from_slice(alloc, input)?;
@@ -72,7 +72,7 @@ fn call(alloc: Global, words: &[&str], input: &[u8], way: Way) -> Result<Told, A
     let failing_writes = failing(alloc, way.failing_write)?;
     let mut output = MemSink::new(alloc, 4_096, cut, failing_writes)?;
     let served = desk_top(alloc, &words, &mut source, &mut output);
-    Ok(Told {
+    Ok(Wrote {
         status: served.status,
         output,
     })
@@ -87,19 +87,19 @@ fn check_way(
     status: u8,
     output: &[u8],
 ) -> Result<(), Fail> {
-    let told = call(rt.alloc(), &["auction"], input, way)?;
+    let wrote = call(rt.alloc(), &["auction"], input, way)?;
     let Way {
         cut,
         failing_read,
         failing_write,
     } = way;
     assert_eq!(rt;
-        told.status,
+        wrote.status,
         status,
         "{shows}: {cut}, {failing_read}, {failing_write}"
     );
     assert_eq!(rt;
-        told.output.bytes(),
+        wrote.output.bytes(),
         output,
         "{shows}: {cut}, {failing_read}, {failing_write}"
     );

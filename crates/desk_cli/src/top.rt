@@ -1,16 +1,16 @@
 //! The call that the program makes.
 
 ghost use Rattle.std.specs.Prelude.{◌≡◌, ◌≤◌, ◌↔◌, [], map, IsTrue, IfSome, IfOk, string_bytes};
-ghost use Rattle.desk_cli.specs.Ending.{AreWord, IsAuctionOutcome, IsWritten};
-ghost use Rattle.desk_cli.specs.Outcome.{Outcome};
-ghost use Rattle.desk_cli.specs.TopCall.{Ends};
+ghost use Rattle.desk_cli.specs.Ending.{AreWord, IsAuctionPrintout, IsWritten};
+ghost use Rattle.desk_cli.specs.Printout.{Printout};
+ghost use Rattle.desk_cli.specs.TopCall.{CallEnds};
 
 use crate::answer::{Answer, fault_answer, page_answer, read_fault_answer, say};
 use crate::auction::read_auction;
 use crate::fault::ReadEnd;
 use crate::script::{Served, serve_script};
 use desk_io::{Sink, Source};
-use std::alloc::{AllocError, Global};
+use std::alloc::{AllocError as NoMemory, Global};
 
 /// Runs the command that the words name, and answers the status of the process with the desk that
 /// was served, where the command opens one.
@@ -34,7 +34,7 @@ pub fn desk_top<S: Source, T: Sink>(
     input: &mut S,
     output: &mut T,
 ) -> Served
-    ensures ended { Ends (map string_bytes words.now) (S.source input.old) (S.source input.new) (T.sink output.old) (T.sink output.new) result }
+    ensures ended { CallEnds (map string_bytes words.now) (S.source input.old) (S.source input.new) (T.sink output.old) (T.sink output.new) result }
     ensures all_read { result.status ≡ 0 → IfSome (S.source input.new).left (λ bytes. bytes ≡ []) }
     ensures read_faults { (S.source input.old).faults ≤ (S.source input.new).faults }
     ensures write_faults { (T.sink output.old).faults ≤ (T.sink output.new).faults }
@@ -66,7 +66,7 @@ fn are_word(words: &[String], word: &str) -> bool
 
 /// Reads an auction and writes its page, or why there is none.
 fn serve_auction<S: Source, T: Sink>(alloc: Global, input: &mut S, output: &mut T) -> u8
-    ensures ended { (outcome : Outcome) × IsAuctionOutcome (S.source input.old) (S.source input.new) outcome × IsWritten (T.sink output.old) (T.sink output.new) outcome result }
+    ensures ended { (printout : Printout) × IsAuctionPrintout (S.source input.old) (S.source input.new) printout × IsWritten (T.sink output.old) (T.sink output.new) printout result }
     ensures all_read { result ≡ 0 → IfSome (S.source input.new).left (λ bytes. bytes ≡ []) }
     ensures read_faults { (S.source input.old).faults ≤ (S.source input.new).faults }
     ensures write_faults { (T.sink output.old).faults ≤ (T.sink output.new).faults }
@@ -78,8 +78,8 @@ fn serve_auction<S: Source, T: Sink>(alloc: Global, input: &mut S, output: &mut 
 }
 
 /// Reads an auction, and answers its page or why there is none.
-fn auction_answer<S: Source>(alloc: Global, input: &mut S) -> Result<Answer, AllocError>
-    ensures outcome { IfOk result (λ answer. IsAuctionOutcome (S.source input.old) (S.source input.new) (record { output = string_bytes answer.text; status = answer.status })) }
+fn auction_answer<S: Source>(alloc: Global, input: &mut S) -> Result<Answer, NoMemory>
+    ensures printout { IfOk result (λ answer. IsAuctionPrintout (S.source input.old) (S.source input.new) (record { text = string_bytes answer.text; status = answer.status })) }
     ensures all_read { IfOk result (λ answer. answer.status ≡ 0 → IfSome (S.source input.new).left (λ bytes. bytes ≡ [])) }
     ensures faults { (S.source input.old).faults ≤ (S.source input.new).faults }
 {
@@ -87,6 +87,6 @@ fn auction_answer<S: Source>(alloc: Global, input: &mut S) -> Result<Answer, All
         Ok(auction) => page_answer(alloc, &auction),
         Err(ReadEnd::Fault(fault)) => fault_answer(alloc, fault),
         Err(ReadEnd::ReadFault) => read_fault_answer(alloc),
-        Err(ReadEnd::NoMemory) => Err(AllocError),
+        Err(ReadEnd::NoMemory) => Err(NoMemory),
     }
 }

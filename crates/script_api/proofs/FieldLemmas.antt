@@ -7,7 +7,7 @@ use Rattle.std.proofs.lemmas.List.{length-take-le, drop_all}
 use Rattle.std.proofs.lemmas.List.Elements.{All-from_get_or}
 use Rattle.std.proofs.lemmas.List.Splits.{slice_split_first, slice_split_none}
 use Rattle.std.proofs.lemmas.List.Sums.{fails_before_first, passes_at_first}
-use Rattle.script_api.specs.Fields.{fields, unspaced, behind_first}
+use Rattle.script_api.specs.LineFields.{fields, unspaced, behind_first}
 use Rattle.script_api.proofs.SpaceLemmas.{unspaced-space, unspaced-other, unspaced-nil}
 
 abbrev is_space : ℕ → Bool

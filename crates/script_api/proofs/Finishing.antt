@@ -16,8 +16,8 @@ use Rattle.script_api.specs.declared.ending.ScriptEnd.{ScriptEnd}
 use Rattle.script_api.specs.declared.ending.ScriptEnd.TheVariants.{Ended, BadLine, LongLine, TooManyLines, NotBuilt, ReadFault, WriteFault, NoMemory}
 use Rattle.script_api.specs.ReplyLine.{answer_line}
 use Rattle.script_api.specs.ScriptRun.{AreFirstOf, AreMade, AreWritten, IsRun}
-use Rattle.script_api.specs.Told.{ScriptValue, script_of}
-use Rattle.script_api.specs.Turn.{IsPut, IsBroken, ArePut, AreTurns, Finishes}
+use Rattle.script_api.specs.ScriptValue.{ScriptValue, script_of}
+use Rattle.script_api.specs.ScriptTurn.{IsPut, IsBroken, ArePut, AreTurns, Finishes}
 use Rattle.script_api.proofs.Turning.{first-none}
 
 -- however a script ended, the calls that were made are the first of its calls

@@ -5,7 +5,7 @@ pub mod BarLemmas
 pub mod FormLemmas
 pub mod LineLemmas
 pub mod Putting
-pub mod Telling
+pub mod Spelling
 pub mod Turning
 pub mod Making
 pub mod Looping

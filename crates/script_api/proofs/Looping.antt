@@ -21,10 +21,10 @@ use Rattle.script_api.specs.declared.ending.ScriptEnd.TheVariants.{Ended, BadLin
 use Rattle.script_api.specs.ReplyLine.{answer_line}
 use Rattle.script_api.specs.Script.{script_line}
 use Rattle.script_api.specs.ScriptRun.{AreFirstOf, AreMade, AreEnded, IsCutOff}
-use Rattle.script_api.specs.Told.{ScriptValue, calls_of, end_at, behind_calls, told_behind, script_of}
-use Rattle.script_api.specs.Turn.{IsPut, ArePut, GoesOn, TakesNothing, Takes, IsTurn, AreTurns}
+use Rattle.script_api.specs.ScriptValue.{ScriptValue, calls_of, end_at, behind_calls, spelled_behind, script_of}
+use Rattle.script_api.specs.ScriptTurn.{IsPut, ArePut, GoesOn, TakesNothing, Takes, IsTurn, AreTurns}
 use Rattle.script_api.proofs.Putting.{IsPut-same, IsPut-behind, ArePut-behind}
-use Rattle.script_api.proofs.Telling.{told-end, told-goes}
+use Rattle.script_api.proofs.Spelling.{spelled-end, spelled-goes}
 
 behind-assoc : (calls more : List (ℕ × Call)) (script : ScriptValue) → behind_calls calls (behind_calls more script) ≡ behind_calls (calls ++ more) script
 behind-assoc calls more script = ap (λ (all : List (ℕ × Call)). let s : ScriptValue = record { calls = all; end = script.end } in s) (sym (append_assoc calls more script.calls))
@@ -32,12 +32,12 @@ behind-assoc calls more script = ap (λ (all : List (ℕ × Call)). let s : Scri
 behind-ended : (calls more : List (ℕ × Call)) (ending : ScriptEnd) (script : ScriptValue) → script ≡ record { calls = more; end = ending } → behind_calls calls script ≡ record { calls = calls ++ more; end = ending }
 behind-ended calls more ending script is = rw is refl
 
--- of the bytes, whole lines were taken, so many; their calls are made, and whatever stands behind them is told behind these
+-- of the bytes, whole lines were taken, so many; their calls are made, and whatever stands behind them is spelled behind these
 pub record IsTaken (bytes rest : List ℕ) (before : ℕ) (calls : List (ℕ × Call)) : Type 0 where
   pub part : List ℕ
   pub whole : bytes ≡ part ++ rest
   pub ended : AreEnded part
-  pub tells : (more : List ℕ) → script_of (part ++ more) ≡ behind_calls calls (told_behind before (lines more))
+  pub spells : (more : List ℕ) → script_of (part ++ more) ≡ behind_calls calls (spelled_behind before (lines more))
 
 abbrev pub AreTaken : Option (List ℕ) → Option (List ℕ) → ℕ → List (ℕ × Call) → Type 0
 AreTaken None rest before calls = Unit {0}
@@ -47,7 +47,7 @@ AreTaken (Some bytes) (Some rest) before calls = IsTaken bytes rest before calls
 taken-start : (whole : Option (List ℕ)) → AreTaken whole whole 0 []
 unfolding script_of
 taken-start None = tt
-taken-start (Some bytes) = record { part = []; whole = refl; ended = inl refl; tells = λ more. refl }
+taken-start (Some bytes) = record { part = []; whole = refl; ended = inl refl; spells = λ more. refl }
 
 -- the bytes of a line that goes on are put behind those that were taken
 taken-line : (bytes rest : List ℕ) (now : Option (List ℕ)) (before : ℕ) (calls more : List (ℕ × Call)) → IsTaken bytes rest before calls → GoesOn before rest now more → IsTaken bytes (after_first_line rest) (before + 1) (calls ++ more)
@@ -58,15 +58,15 @@ taken-line bytes rest now before calls more taken goes =
       part = taken.part ++ (front ++ 10 ∷ []);
       whole = taken.whole ∙ ap (λ all. taken.part ++ all) (cut.whole ∙ sym (append_assoc front (10 ∷ []) (after_first_line rest))) ∙ sym (append_assoc taken.part (front ++ 10 ∷ []) (after_first_line rest));
       ended = inr (taken.part ++ front, sym (append_assoc taken.part front (10 ∷ [])));
-      tells = λ behind.
+      spells = λ behind.
           let joined : (taken.part ++ (front ++ 10 ∷ [])) ++ behind ≡ taken.part ++ (front ++ 10 ∷ behind) =
           append_assoc taken.part (front ++ 10 ∷ []) behind ∙ ap (λ all. taken.part ++ all) (append_assoc front (10 ∷ []) behind) in
           let line_goes : end_at before (first_line (front ++ 10 ∷ behind)) ≡ None = ap (end_at before) (cut.first behind) ∙ goes.goes in
           let line_made : more ≡ calls_of (script_line (first_line (front ++ 10 ∷ behind)).text) = goes.made ∙ ap (λ (line : Line). calls_of (script_line line.text)) (sym (cut.first behind)) in
-          ap script_of joined ∙ taken.tells (front ++ 10 ∷ behind)
-          ∙ ap (behind_calls calls) (told-goes before (front ++ 10 ∷ behind) more (cut.some behind) line_goes line_made)
-          ∙ behind-assoc calls more (told_behind (before + 1) (lines (after_first_line (front ++ 10 ∷ behind))))
-          ∙ ap (λ left. behind_calls (calls ++ more) (told_behind (before + 1) (lines left))) (cut.rest behind);
+          ap script_of joined ∙ taken.spells (front ++ 10 ∷ behind)
+          ∙ ap (behind_calls calls) (spelled-goes before (front ++ 10 ∷ behind) more (cut.some behind) line_goes line_made)
+          ∙ behind-assoc calls more (spelled_behind (before + 1) (lines (after_first_line (front ++ 10 ∷ behind))))
+          ∙ ap (λ left. behind_calls (calls ++ more) (spelled_behind (before + 1) (lines left))) (cut.rest behind);
     }
 
 taken-turn : (whole rest now : Option (List ℕ)) (held : List ℕ) (before : ℕ) (calls more : List (ℕ × Call)) → AreTaken whole rest before calls → Takes before rest now held more (Ok tt) → AreTaken whole now (before + 1) (calls ++ more)
@@ -93,7 +93,7 @@ made-turn : (whole rest now : Option (List ℕ)) (held : List ℕ) (before : ℕ
 made-turn None rest now held before calls more ending taken takes = tt
 made-turn (Some bytes) None now held before calls more ending taken takes = absurd taken
 made-turn (Some bytes) (Some rest) now held before calls more ending taken takes =
-    made-behind calls more (told_behind before (lines rest)) (script_of bytes) ending (ap script_of taken.whole ∙ taken.tells rest) takes.made
+    made-behind calls more (spelled_behind before (lines rest)) (script_of bytes) ending (ap script_of taken.whole ∙ taken.spells rest) takes.made
 
 -- a failed read cuts off behind the lines that were taken
 read-cut : (bytes part rest held : List ℕ) (left : Option (List ℕ)) → bytes ≡ part ++ rest → option_map (λ more. held ++ more) left ≡ Some rest → Some bytes ≡ option_map (λ more. part ++ (held ++ more)) left
@@ -107,8 +107,8 @@ cut-off bytes rest reader left before calls more taken none = record {
   read = read-cut bytes taken.part rest reader.held left taken.whole none.same;
   ended = taken.ended;
   no_feed = none.no_line;
-  told = ap script_of (sym (append-nil taken.part)) ∙ taken.tells [] ∙ behind-ended calls more Ended (told_behind before (lines []))
-      (told-end before [] refl ∙ ap (λ (all : List (ℕ × Call)). let s : ScriptValue = record { calls = all; end = Ended } in s) (sym none.no_call));
+  spelled = ap script_of (sym (append-nil taken.part)) ∙ taken.spells [] ∙ behind-ended calls more Ended (spelled_behind before (lines []))
+      (spelled-end before [] refl ∙ ap (λ (all : List (ℕ × Call)). let s : ScriptValue = record { calls = all; end = Ended } in s) (sym none.no_call));
 }
 
 cut-turn : (whole rest : Option (List ℕ)) (reader : ReaderValue) (left : Option (List ℕ)) (before : ℕ) (calls more : List (ℕ × Call)) (ending : ScriptEnd) → AreTaken whole rest before calls → Takes before rest (ahead reader left) reader.held more (Err ending) → ending ≡ ReadFault → IfSome whole (λ bytes. IsCutOff bytes left (calls ++ more))

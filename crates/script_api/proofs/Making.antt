@@ -12,7 +12,7 @@ use Rattle.desk_types.proofs.ServedInTurn.{Served-none, Served-one}
 use Rattle.desk_io.specs.Reader.{ReaderValue}
 use Rattle.desk_io.specs.SinkView.{SinkView}
 use Rattle.desk_io.proofs.LineCuts.{cut-none}
-use Rattle.script_api.specs.declared.limits.TheConstants.{LINES_MAX}
+use Rattle.script_api.specs.declared.limits.TheConstants.{INPUT_LINES_MAX}
 use Rattle.script_api.specs.declared.ending.ScriptEnd.{ScriptEnd}
 use Rattle.script_api.specs.declared.ending.ScriptEnd.TheVariants.{Ended, WriteFault, NoMemory}
 use Rattle.script_api.specs.declared.line.ScriptLine.{ScriptLine}
@@ -20,15 +20,15 @@ use Rattle.script_api.specs.declared.line.ScriptLine.TheVariants.{Timed}
 use Rattle.script_api.specs.ReplyLine.{answer_line}
 use Rattle.script_api.specs.Script.{script_line}
 use Rattle.script_api.specs.ScriptRun.{EndCause}
-use Rattle.script_api.specs.Told.{calls_of, form_end}
-use Rattle.script_api.specs.Turn.{Going, IsPut, IsBroken, ArePut, Takes, ReadsLine, MakesCall, IsLineServed, IsTurn}
+use Rattle.script_api.specs.ScriptValue.{calls_of, form_end}
+use Rattle.script_api.specs.ScriptTurn.{Going, IsPut, IsBroken, ArePut, Takes, ReadsLine, MakesCall, IsLineServed, IsTurn}
 use Rattle.script_api.proofs.Putting.{ArePut-behind, ArePut-other, ArePut-nothing}
 use Rattle.script_api.proofs.Turning.{takes-broken, line_ended, line_goes, line_last}
 
 -- a line without a call
-pub untold : (me : ℕ) (opening : State) (seen : List Entry) (number : ℕ) (told : ScriptLine) (o : SinkView) (waiting : List ℕ) (going : Going) →
-    IsLegal opening.settings seen → MakesCall number told [] going → ArePut o o waiting waiting going → IsLineServed me opening seen seen number told o o waiting waiting going
-untold me opening seen number told o waiting going legal makes put = record {
+pub serves-none : (me : ℕ) (opening : State) (seen : List Entry) (number : ℕ) (spelled : ScriptLine) (o : SinkView) (waiting : List ℕ) (going : Going) →
+    IsLegal opening.settings seen → MakesCall number spelled [] going → ArePut o o waiting waiting going → IsLineServed me opening seen seen number spelled o o waiting waiting going
+serves-none me opening seen number spelled o waiting going legal makes put = record {
   calls = [];
   results = [];
   served = Served-none me opening seen legal;
@@ -37,10 +37,10 @@ untold me opening seen number told o waiting going legal makes put = record {
 }
 
 -- a line with a call, however its answer was put
-makes-call : (number moment : ℕ) (call : Call) (told : ScriptLine) (going : Going) → told ≡ Timed moment call → IfErr going (λ end. (end ≡ WriteFault) ⊎ (end ≡ NoMemory)) → MakesCall number told ((moment, call) ∷ []) going
-makes-call number moment call told (Ok one) is failed = (ap (form_end number) is, sym (ap calls_of is))
-makes-call number moment call told (Err ending) is (inl broken) = rw broken (ap (form_end number) is, sym (ap calls_of is))
-makes-call number moment call told (Err ending) is (inr wanting) = rw wanting (inl (ap (form_end number) is, sym (ap calls_of is)))
+makes-call : (number moment : ℕ) (call : Call) (spelled : ScriptLine) (going : Going) → spelled ≡ Timed moment call → IfErr going (λ end. (end ≡ WriteFault) ⊎ (end ≡ NoMemory)) → MakesCall number spelled ((moment, call) ∷ []) going
+makes-call number moment call spelled (Ok one) is failed = (ap (form_end number) is, sym (ap calls_of is))
+makes-call number moment call spelled (Err ending) is (inl broken) = rw broken (ap (form_end number) is, sym (ap calls_of is))
+makes-call number moment call spelled (Err ending) is (inr no_memory) = rw no_memory (inl (ap (form_end number) is, sym (ap calls_of is)))
 
 pub tells : (me : ℕ) (opening : State) (seen seen' : List Entry) (number : ℕ) (line : ScriptLine) (o o' : SinkView) (waiting waiting' : List ℕ) (going : Going) (moment : ℕ) (call : Call) →
     line ≡ Timed moment call → IfErr going (λ end. (end ≡ WriteFault) ⊎ (end ≡ NoMemory)) →
@@ -80,14 +80,14 @@ numbered : (number : ℕ) (line : ScriptLine) (calls : List (ℕ × Call)) (goin
 numbered number line calls going from makes = let same : number ≡ number - 1 + 1 = omega arith in subst (λ n. MakesCall n line calls going) same makes
 
 -- the line ended the script
-takes-ended : (number : ℕ) (whole now : Option (List ℕ)) (reader : ReaderValue) (text held : List ℕ) (calls : List (ℕ × Call)) (ending : ScriptEnd) → 1 ≤ number → number ≤ LINES_MAX →
+takes-ended : (number : ℕ) (whole now : Option (List ℕ)) (reader : ReaderValue) (text held : List ℕ) (calls : List (ℕ × Call)) (ending : ScriptEnd) → 1 ≤ number → number ≤ INPUT_LINES_MAX →
     ReadsLine (number - 1) whole now reader (Ok tt) → text ≡ reader.line → MakesCall number (script_line text) calls (Err ending) → Takes (number - 1) whole now held calls (Err ending)
 takes-ended number None now reader text held calls ending from to reads is makes = tt
 takes-ended number (Some bytes) now reader text held calls ending from to reads is makes =
     line_ended (number - 1) bytes text (omega arith) (rw is reads.1.0) now held calls ending (numbered number (script_line text) calls (Err ending) from makes)
 
 pub turn-ended : (me : ℕ) (opening : State) (seen seen' : List Entry) (number : ℕ) (whole now : Option (List ℕ)) (reader : ReaderValue) (text held : List ℕ) (o o' o'' : SinkView) (waiting waiting' waiting'' : List ℕ) (ending : ScriptEnd) →
-    1 ≤ number → number ≤ LINES_MAX → ReadsLine (number - 1) whole now reader (Ok tt) → text ≡ reader.line → IsPut o o' waiting waiting' →
+    1 ≤ number → number ≤ INPUT_LINES_MAX → ReadsLine (number - 1) whole now reader (Ok tt) → text ≡ reader.line → IsPut o o' waiting waiting' →
     IsLineServed me opening seen seen' number (script_line text) o' o'' waiting' waiting'' (Err ending) → IsTurn me opening seen seen' (number - 1) whole now held o o'' waiting waiting'' (Err ending)
 turn-ended me opening seen seen' number whole now reader text held o o' o'' waiting waiting' waiting'' ending from to reads is put line = record {
   calls = line.calls;
@@ -98,7 +98,7 @@ turn-ended me opening seen seen' number whole now reader text held o o' o'' wait
 }
 
 -- the line went on: the turn ends with it where the end of the source ended it
-takes-went : (number : ℕ) (whole now : Option (List ℕ)) (reader : ReaderValue) (text held : List ℕ) (calls : List (ℕ × Call)) (going : Going) → 1 ≤ number → number ≤ LINES_MAX →
+takes-went : (number : ℕ) (whole now : Option (List ℕ)) (reader : ReaderValue) (text held : List ℕ) (calls : List (ℕ × Call)) (going : Going) → 1 ≤ number → number ≤ INPUT_LINES_MAX →
     ReadsLine (number - 1) whole now reader (Ok tt) → text ≡ reader.line → MakesCall number (script_line text) calls (Ok tt) →
     MatchResult going (λ _. reader.is_ended ≡ true) (λ end. (end ≡ Ended) × (reader.is_ended ≡ false)) → Takes (number - 1) whole now held calls going
 takes-went number None now reader text held calls going from to reads is makes goes = tt
@@ -112,7 +112,7 @@ puts-went o o' bytes waiting ended last (Ok one) goes put = put
 puts-went o o' bytes waiting ended last (Err ending) goes put = rw goes.0 put
 
 pub turn-went : (me : ℕ) (opening : State) (seen seen' : List Entry) (number : ℕ) (whole now : Option (List ℕ)) (reader : ReaderValue) (text held : List ℕ) (o o' o'' : SinkView) (waiting waiting' waiting'' : List ℕ) (going : Going) →
-    1 ≤ number → number ≤ LINES_MAX → ReadsLine (number - 1) whole now reader (Ok tt) → text ≡ reader.line → IsPut o o' waiting waiting' →
+    1 ≤ number → number ≤ INPUT_LINES_MAX → ReadsLine (number - 1) whole now reader (Ok tt) → text ≡ reader.line → IsPut o o' waiting waiting' →
     IsLineServed me opening seen seen' number (script_line text) o' o'' waiting' waiting'' (Ok tt) →
     MatchResult going (λ _. reader.is_ended ≡ true) (λ end. (end ≡ Ended) × (reader.is_ended ≡ false)) → IsTurn me opening seen seen' (number - 1) whole now held o o'' waiting waiting'' going
 turn-went me opening seen seen' number whole now reader text held o o' o'' waiting waiting' waiting'' going from to reads is put line goes = record {

@@ -7,7 +7,7 @@ use Rattle.desk_io.proofs.Appending.{Appends_none, Appends_more, IsProperPrefix_
 use Rattle.script_api.specs.declared.ending.ScriptEnd.{ScriptEnd}
 use Rattle.script_api.specs.declared.ending.ScriptEnd.TheVariants.{Ended, BadLine, LongLine, TooManyLines, NotBuilt, ReadFault, WriteFault, NoMemory}
 use Rattle.script_api.specs.ScriptRun.{EndCause}
-use Rattle.script_api.specs.Turn.{Going, IsPut, IsBroken, ArePut}
+use Rattle.script_api.specs.ScriptTurn.{Going, IsPut, IsBroken, ArePut}
 
 -- a sink that stays as it is, and bytes that wait
 pub IsPut-same : (o : SinkView) (bytes waiting : List ℕ) → IfSome o.taken (λ n. n < 2 ^ 64) → waiting ≡ bytes → IsPut o o bytes waiting
@@ -30,8 +30,8 @@ ArePut-other o p bytes waiting reads reads' WriteFault cause put = absurd (omega
 ArePut-other o p bytes waiting reads reads' NoMemory cause (sent, appends, whole) = (sent, appends, ([], sym whole ∙ sym (append-nil (sent ++ waiting))))
 
 -- for want of memory nothing more was put
-pub ArePut-wanting : (o p : SinkView) (bytes waiting : List ℕ) → IsPut o p bytes waiting → ArePut o p bytes waiting (Err NoMemory)
-ArePut-wanting o p bytes waiting put = ArePut-other o p bytes waiting 0 0 NoMemory tt put
+pub ArePut-no_memory : (o p : SinkView) (bytes waiting : List ℕ) → IsPut o p bytes waiting → ArePut o p bytes waiting (Err NoMemory)
+ArePut-no_memory o p bytes waiting put = ArePut-other o p bytes waiting 0 0 NoMemory tt put
 
 -- what was put behind what had been put
 module _ (o p q : SinkView) (bytes waiting more waiting' : List ℕ) where

@@ -1,11 +1,11 @@
--- Spaces trimmed off the ends of a text.
+-- Spaces taken off the ends of a text.
 use Rattle.std.proofs.Common.{◌≡◌, ◌≢◌, ℕ, ◌-◌, List, [], ◌∷◌, ◌++◌, length, take, drop, refl, sym, ◌∙◌, ap, arith, Bool, true, false}
 use Rattle.std.specs.Prelude.{◌==◌, ◌&&◌, Option, Some, None, if◌then◌else◌, IfSome}
 use Rattle.std.specs.Char.{encode_utf8}
 use Rattle.std.specs.Str.Pattern.{HasCharAt, FindsCharPrefix, FindsCharSuffix, CutsPrefixes, CutsSuffixes, IsTrimStartMatches, IsTrimEndMatches}
 use Rattle.std.proofs.lemmas.Bool.{ne_eqb}
 use Rattle.std.proofs.lemmas.List.{take-append-drop, drop_all}
-use Rattle.script_api.specs.Fields.{unspaced, trimmed}
+use Rattle.script_api.specs.LineFields.{unspaced, unspaced_end}
 
 pub unspaced-space : (more : List ℕ) → unspaced (32 ∷ more) ≡ unspaced more
 unfolding unspaced
@@ -42,52 +42,52 @@ pub unspaced-from_trim : (s r : List ℕ) → IsTrimStartMatches (FindsCharPrefi
 unspaced-from_trim s r h = sym (fully r h.1.0 h.1.1 h.1.2) ∙ cut_off s h.0.0 r h.0.1
 
 -- at the end
-trimmed-nil : trimmed [] ≡ []
-unfolding trimmed
-trimmed-nil = refl
+unspaced_end-nil : unspaced_end [] ≡ []
+unfolding unspaced_end
+unspaced_end-nil = refl
 
-trimmed_of : (byte : ℕ) (a b : List ℕ) → trimmed a ≡ trimmed b → trimmed (byte ∷ a) ≡ trimmed (byte ∷ b)
-unfolding trimmed
-trimmed_of byte a b same = rw same refl
+unspaced_end_of : (byte : ℕ) (a b : List ℕ) → unspaced_end a ≡ unspaced_end b → unspaced_end (byte ∷ a) ≡ unspaced_end (byte ∷ b)
+unfolding unspaced_end
+unspaced_end_of byte a b same = rw same refl
 
-trimmed-end_space : (m : List ℕ) → trimmed (m ++ (32 ∷ [])) ≡ trimmed m
-unfolding trimmed
-trimmed-end_space [] = refl
-trimmed-end_space (byte ∷ more) = trimmed_of byte (more ++ (32 ∷ [])) more (trimmed-end_space more)
+unspaced_end-end_space : (m : List ℕ) → unspaced_end (m ++ (32 ∷ [])) ≡ unspaced_end m
+unfolding unspaced_end
+unspaced_end-end_space [] = refl
+unspaced_end-end_space (byte ∷ more) = unspaced_end_of byte (more ++ (32 ∷ [])) more (unspaced_end-end_space more)
 
-one_off_end : (m : List ℕ) (n : ℕ) → FindsCharSuffix 32 m (Some n) → trimmed (take (length m - n) m) ≡ trimmed m
+one_off_end : (m : List ℕ) (n : ℕ) → FindsCharSuffix 32 m (Some n) → unspaced_end (take (length m - n) m) ≡ unspaced_end m
 unfolding encode_utf8
 one_off_end m n at =
     let k : ℕ = length m - n in
     let rest : drop (length m) m ≡ [] = drop_all _ m (omega arith) in
     let last : drop k m ≡ 32 ∷ [] = at.1.split ∙ ap (λ t. 32 ∷ t) rest in
     let whole : m ≡ take k m ++ (32 ∷ []) = sym (take-append-drop k m) ∙ ap (λ t. take k m ++ t) last in
-    sym (ap trimmed whole ∙ trimmed-end_space (take k m))
+    sym (ap unspaced_end whole ∙ unspaced_end-end_space (take k m))
 
-cut_off_end : (s : List ℕ) (ns : List ℕ) (r : List ℕ) → CutsSuffixes (FindsCharSuffix 32) s ns r → trimmed r ≡ trimmed s
-cut_off_end s [] r h = ap trimmed h
-cut_off_end s (n ∷ ns) r h = ap trimmed h.3 ∙ (one_off_end h.0 n h.2 ∙ cut_off_end s ns h.0 h.1)
+cut_off_end : (s : List ℕ) (ns : List ℕ) (r : List ℕ) → CutsSuffixes (FindsCharSuffix 32) s ns r → unspaced_end r ≡ unspaced_end s
+cut_off_end s [] r h = ap unspaced_end h
+cut_off_end s (n ∷ ns) r h = ap unspaced_end h.3 ∙ (one_off_end h.0 n h.2 ∙ cut_off_end s ns h.0 h.1)
 
-trimmed_cons : (byte : ℕ) (more : List ℕ) → trimmed (byte ∷ more) ≡ (if byte == 32 && length (trimmed more) == 0 then [] else byte ∷ trimmed more)
-unfolding trimmed
-trimmed_cons byte more = refl
+unspaced_end_cons : (byte : ℕ) (more : List ℕ) → unspaced_end (byte ∷ more) ≡ (if byte == 32 && length (unspaced_end more) == 0 then [] else byte ∷ unspaced_end more)
+unfolding unspaced_end
+unspaced_end_cons byte more = refl
 
 second : (v : Bool) (a b : List ℕ) → (if v && false then a else b) ≡ b
 second true a b = refl
 second false a b = refl
 
-trimmed-kept : (byte : ℕ) (more : List ℕ) → trimmed more ≡ more → byte ∷ more ≢ 32 ∷ [] → trimmed (byte ∷ more) ≡ byte ∷ more
-trimmed-kept byte [] same other = trimmed_cons byte [] ∙ rw (same, ne_eqb byte 32 (λ e. other (ap (λ b. b ∷ []) e))) refl
-trimmed-kept byte (next ∷ more) same other = trimmed_cons byte (next ∷ more) ∙ rw (same, ne_eqb (length (next ∷ more)) 0 (λ e. omega (arith, e))) (second (byte == 32) [] (byte ∷ next ∷ more))
+unspaced_end-kept : (byte : ℕ) (more : List ℕ) → unspaced_end more ≡ more → byte ∷ more ≢ 32 ∷ [] → unspaced_end (byte ∷ more) ≡ byte ∷ more
+unspaced_end-kept byte [] same other = unspaced_end_cons byte [] ∙ rw (same, ne_eqb byte 32 (λ e. other (ap (λ b. b ∷ []) e))) refl
+unspaced_end-kept byte (next ∷ more) same other = unspaced_end_cons byte (next ∷ more) ∙ rw (same, ne_eqb (length (next ∷ more)) 0 (λ e. omega (arith, e))) (second (byte == 32) [] (byte ∷ next ∷ more))
 
-none_at_end : (r : List ℕ) → ((front : List ℕ) → r ≢ front ++ encode_utf8 32) → trimmed r ≡ r
+none_at_end : (r : List ℕ) → ((front : List ℕ) → r ≢ front ++ encode_utf8 32) → unspaced_end r ≡ r
 unfolding encode_utf8
-none_at_end [] h = trimmed-nil
-none_at_end (byte ∷ more) h = trimmed-kept byte more (none_at_end more (λ front e. h (byte ∷ front) (ap (λ t. byte ∷ t) e))) (h [])
+none_at_end [] h = unspaced_end-nil
+none_at_end (byte ∷ more) h = unspaced_end-kept byte more (none_at_end more (λ front e. h (byte ∷ front) (ap (λ t. byte ∷ t) e))) (h [])
 
-fully_end : (r : List ℕ) (o : Option ℕ) → FindsCharSuffix 32 r o → IfSome o (λ n. n ≡ 0) → trimmed r ≡ r
+fully_end : (r : List ℕ) (o : Option ℕ) → FindsCharSuffix 32 r o → IfSome o (λ n. n ≡ 0) → unspaced_end r ≡ r
 fully_end r None h z = none_at_end r h
 fully_end r (Some n) h z = absurd (let e : n ≡ 1 = h.0 in omega (arith, e, z))
 
-pub trimmed-from_trim : (s r : List ℕ) → IsTrimEndMatches (FindsCharSuffix 32) s r → r ≡ trimmed s
-trimmed-from_trim s r h = sym (fully_end r h.1.0 h.1.1 h.1.2) ∙ cut_off_end s h.0.0 r h.0.1
+pub unspaced_end-from_trim : (s r : List ℕ) → IsTrimEndMatches (FindsCharSuffix 32) s r → r ≡ unspaced_end s
+unspaced_end-from_trim s r h = sym (fully_end r h.1.0 h.1.1 h.1.2) ∙ cut_off_end s h.0.0 r h.0.1

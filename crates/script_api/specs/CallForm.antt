@@ -1,9 +1,9 @@
--- The calls that the fields of a line tell, by its command.
+-- The calls that the fields of a line spell, by its command.
 use Rattle.std.specs.Prelude.{ℕ, nat_lt, if◌then◌else◌, List, [], ◌∷◌, length, codes, bytes_eq, Option, Some, None, option_map}
 use Rattle.desk_types.specs.declared.call.Call.{Call}
 use Rattle.desk_types.specs.declared.call.Call.TheVariants.{AddAccount, AddCampaign, AddLine, AddNegative, DropNegative, Search, Click}
 use Rattle.script_api.specs.Number.{number}
-use Rattle.script_api.specs.Fields.{fields, unspaced, behind_first, behind_third, behind_fifth}
+use Rattle.script_api.specs.LineFields.{fields, unspaced, behind_first, behind_third, behind_fifth}
 use Rattle.script_api.specs.Bar.{cut_at_bar, both}
 use Rattle.script_api.specs.declared.command.CallWord.{CallWord}
 use Rattle.script_api.specs.declared.command.CallWord.TheVariants as word
@@ -52,15 +52,15 @@ drop_call (account ∷ key ∷ negative ∷ []) = drop_from key (number account)
 drop_call _ = None
 
 -- `N TEXT` or `- TEXT`; the text may be empty
-abbrev pub places_told : List ℕ → Option (Option ℕ)
-places_told field = if bytes_eq field (codes "-") then Some None else option_map Some (number field)
+abbrev pub places_spelled : List ℕ → Option (Option ℕ)
+places_spelled field = if bytes_eq field (codes "-") then Some None else option_map Some (number field)
 
 abbrev pub search_from : List ℕ → Option (Option ℕ) → Option Call
 search_from text (Some places) = Some (Search text places)
 search_from text None = None
 
 abbrev pub search_call : List (List ℕ) → List ℕ → Option Call
-search_call (places ∷ more) text = search_from text (places_told places)
+search_call (places ∷ more) text = search_from text (places_spelled places)
 search_call [] text = None
 
 -- `N`
@@ -73,11 +73,11 @@ click_call (placement ∷ []) = click_from (number placement)
 click_call _ = None
 
 -- the call of a command, by the text behind it
-unfoldable pub call_told : CallWord → List ℕ → Option Call
-call_told word.Account rest = account_call (fields rest)
-call_told word.Campaign rest = campaign_call (fields rest)
-call_told word.Line rest = line_call (fields rest) (unspaced (behind_fifth rest))
-call_told word.Negative rest = negative_call (fields rest) (unspaced (behind_third rest))
-call_told word.Drop rest = drop_call (fields rest)
-call_told word.Search rest = search_call (fields rest) (unspaced (behind_first rest))
-call_told word.Click rest = click_call (fields rest)
+unfoldable pub call_spelled : CallWord → List ℕ → Option Call
+call_spelled word.Account rest = account_call (fields rest)
+call_spelled word.Campaign rest = campaign_call (fields rest)
+call_spelled word.Line rest = line_call (fields rest) (unspaced (behind_fifth rest))
+call_spelled word.Negative rest = negative_call (fields rest) (unspaced (behind_third rest))
+call_spelled word.Drop rest = drop_call (fields rest)
+call_spelled word.Search rest = search_call (fields rest) (unspaced (behind_first rest))
+call_spelled word.Click rest = click_call (fields rest)

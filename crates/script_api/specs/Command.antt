@@ -5,7 +5,7 @@ use Rattle.script_api.specs.declared.command.CallWord.TheVariants as word
 use Rattle.script_api.specs.declared.command.OtherWord.{OtherWord}
 use Rattle.script_api.specs.declared.command.OtherWord.TheVariants as later
 
--- the command of a text, where it tells a call
+-- the command of a text, where a call is made by it
 unfoldable pub call_named : List ℕ → Option CallWord
 call_named text =
     if bytes_eq text (codes "account") then Some word.Account
@@ -17,7 +17,7 @@ call_named text =
     else (if bytes_eq text (codes "click") then Some word.Click
     else None))))))
 
--- the command of a text, where no call of it can be told yet
+-- the command of a text, where no call of it can be made yet
 unfoldable pub other_named : List ℕ → Option OtherWord
 other_named text =
     if bytes_eq text (codes "quality") then Some later.Quality

@@ -1,11 +1,11 @@
 pub mod Number
-pub mod Fields
+pub mod LineFields
 pub mod Bar
 pub mod Command
 pub mod CallForm
 pub mod OtherForm
 pub mod Script
 pub mod ReplyLine
-pub mod Told
+pub mod ScriptValue
 pub mod ScriptRun
-pub mod Turn
+pub mod ScriptTurn

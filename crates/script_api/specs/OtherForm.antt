@@ -1,4 +1,4 @@
--- The forms of the commands of which no call can be told yet.
+-- The forms of the commands of which no call can be made yet.
 use Rattle.std.specs.Prelude.{ℕ, Bool, false, ◌&&◌, ◌||◌, List, [], ◌∷◌, codes, bytes_eq, is_some}
 use Rattle.script_api.specs.Number.{number}
 use Rattle.script_api.specs.declared.command.OtherWord.{OtherWord}

@@ -1,4 +1,4 @@
--- What a line of a script tells.
+-- What a line of a script spells.
 use Rattle.std.specs.Prelude.{ℕ, ◌==◌, not, if◌then◌else◌, List, ◌∷◌, slice_index, Option, Some, None}
 use Rattle.std.specs.Str.{is_utf8}
 use Rattle.desk_types.specs.declared.call.Call.{Call}
@@ -7,9 +7,9 @@ use Rattle.script_api.specs.declared.command.OtherWord.{OtherWord}
 use Rattle.script_api.specs.declared.line.ScriptLine.{ScriptLine}
 use Rattle.script_api.specs.declared.line.ScriptLine.TheVariants.{Skipped, Timed, NotBuilt, Bad}
 use Rattle.script_api.specs.Number.{number}
-use Rattle.script_api.specs.Fields.{fields, is_skipped, trimmed, behind_first}
+use Rattle.script_api.specs.LineFields.{fields, is_skipped, unspaced_end, behind_first}
 use Rattle.script_api.specs.Command.{call_named, other_named}
-use Rattle.script_api.specs.CallForm.{call_told}
+use Rattle.script_api.specs.CallForm.{call_spelled}
 use Rattle.script_api.specs.OtherForm.{is_in_form}
 
 -- a call at its moment
@@ -17,34 +17,34 @@ abbrev pub timed : ℕ → Option Call → ScriptLine
 timed moment (Some call) = Timed moment call
 timed moment None = Bad
 
--- a line by a command of which no call can be told yet
-abbrev pub not_told : Option OtherWord → List ℕ → ScriptLine
-not_told (Some word) rest = if is_in_form word (fields rest) then NotBuilt else Bad
-not_told None rest = Bad
+-- a line by a command of which no call can be made yet
+abbrev pub spelled_by_other : Option OtherWord → List ℕ → ScriptLine
+spelled_by_other (Some word) rest = if is_in_form word (fields rest) then NotBuilt else Bad
+spelled_by_other None rest = Bad
 
 -- a line by its command, with the text behind it
-abbrev pub told_by_command : ℕ → Option CallWord → Option OtherWord → List ℕ → ScriptLine
-told_by_command moment (Some word) other rest = timed moment (call_told word rest)
-told_by_command moment None other rest = not_told other rest
+abbrev pub spelled_by_command : ℕ → Option CallWord → Option OtherWord → List ℕ → ScriptLine
+spelled_by_command moment (Some word) other rest = timed moment (call_spelled word rest)
+spelled_by_command moment None other rest = spelled_by_other other rest
 
 -- a line by its moment and its command
-abbrev pub told_at : Option ℕ → List ℕ → List ℕ → ScriptLine
-told_at (Some moment) command rest = told_by_command moment (call_named command) (other_named command) rest
-told_at None command rest = Bad
+abbrev pub spelled_at : Option ℕ → List ℕ → List ℕ → ScriptLine
+spelled_at (Some moment) command rest = spelled_by_command moment (call_named command) (other_named command) rest
+spelled_at None command rest = Bad
 
 -- a line whose fields are a moment, a command and what the command asks for
-abbrev pub told_by_fields : List (List ℕ) → List ℕ → ScriptLine
-told_by_fields (moment ∷ command ∷ more) rest = told_at (number moment) command rest
-told_by_fields _ rest = Bad
+abbrev pub spelled_by_fields : List (List ℕ) → List ℕ → ScriptLine
+spelled_by_fields (moment ∷ command ∷ more) rest = spelled_at (number moment) command rest
+spelled_by_fields _ rest = Bad
 
--- what a text without spaces at its ends tells
-unfoldable pub told_by_text : List ℕ → ScriptLine
-told_by_text text = told_by_fields (fields text) (behind_first (behind_first text))
+-- what a text without spaces at its ends spells
+unfoldable pub spelled_by_text : List ℕ → ScriptLine
+spelled_by_text text = spelled_by_fields (fields text) (behind_first (behind_first text))
 
--- what a line tells; spaces at its end are dropped, and a space in front makes it bad
+-- what a line spells; spaces at its end are dropped, and a space in front makes it bad
 unfoldable pub script_line : List ℕ → ScriptLine
 script_line line =
     if is_skipped line then Skipped
     else (if not (is_utf8 line) then Bad
     else (if slice_index line 0 == 32 then Bad
-    else told_by_text (trimmed line)))
+    else spelled_by_text (unspaced_end line)))

@@ -15,7 +15,7 @@ use Rattle.desk_io.specs.Writing.{Appends, IsPrefix, IsProperPrefix}
 use Rattle.script_api.specs.declared.ending.ScriptEnd.{ScriptEnd}
 use Rattle.script_api.specs.declared.ending.ScriptEnd.TheVariants.{Ended, BadLine, LongLine, TooManyLines, NotBuilt, ReadFault, WriteFault, NoMemory}
 use Rattle.script_api.specs.ReplyLine.{answer_line}
-use Rattle.script_api.specs.Told.{ScriptValue, script_of}
+use Rattle.script_api.specs.ScriptValue.{ScriptValue, script_of}
 
 -- the calls are the first of others, or all of them
 abbrev pub AreFirstOf : List (ℕ × Call) → List (ℕ × Call) → Type 0
@@ -43,7 +43,7 @@ pub record IsCutOff (bytes : List ℕ) (left : Option (List ℕ)) (calls : List 
   pub read : Some bytes ≡ option_map (λ more. part ++ (rest ++ more)) left
   pub ended : AreEnded part
   pub no_feed : has_line_feed rest ≡ false
-  pub told : script_of part ≡ record { calls = calls; end = Ended }
+  pub spelled : script_of part ≡ record { calls = calls; end = Ended }
 
 -- the lines are written: all of them, or after a failed write a beginning and not all, or for want of memory a beginning
 abbrev pub AreWritten : SinkView → SinkView → List ℕ → ScriptEnd → Type 0

@@ -5,10 +5,10 @@ ghost use Rattle.desk_io.specs.Faults.{Rose};
 ghost use Rattle.desk_io.specs.Writing.{Appends, IsProperPrefix};
 ghost use Rattle.script_api.specs.ReplyLine.{answer_line};
 ghost use Rattle.script_api.specs.ScriptRun.{EndCause};
-ghost use Rattle.script_api.specs.Turn.{ArePut, Finishes};
+ghost use Rattle.script_api.specs.ScriptTurn.{ArePut, Finishes};
 
 use crate::ending::ScriptEnd;
-use crate::reply_line::write_answer;
+use crate::reply_line::write_answer_line;
 use desk_io::{OutBuf, Sink, WriteFault};
 use desk_types::{Fault, Reply};
 use query_words::NoMemory;
@@ -17,12 +17,12 @@ use std::marker::Model;
 
 /// The lines of answers that wait, seen as their bytes. After a failed write it is not used again.
 #[derive(Drop)]
-pub struct Answers {
+pub struct AnswerLines {
     text: String,
     out: OutBuf,
 }
 
-impl Model for Answers {
+impl Model for AnswerLines {
     ghost use Rattle.std.specs.Prelude.{List, ℕ};
 
     ghost Value = { List ℕ };
@@ -30,12 +30,12 @@ impl Model for Answers {
     ghost view = { λ a. a.out };
 }
 
-impl Answers {
+impl AnswerLines {
     /// No lines.
-    pub fn new(alloc: Global) -> Result<Answers, NoMemory>
+    pub fn new(alloc: Global) -> Result<AnswerLines, NoMemory>
         ensures { IfOk result (λ answers. answers ≡ []) }
     {
-        Ok(Answers {
+        Ok(AnswerLines {
             text: String::new(alloc),
             out: OutBuf::new(alloc)?,
         })
@@ -54,7 +54,7 @@ impl Answers {
         ensures faults { (T.sink output.old).faults ≤ (T.sink output.new).faults }
     {
         self.text.clear();
-        let Ok(()) = write_answer(&mut self.text, answer) else {
+        let Ok(()) = write_answer_line(&mut self.text, answer) else {
             return Err(ScriptEnd::NoMemory);
         };
         match self.out.put(output, self.text.as_bytes()) {

@@ -1,8 +1,8 @@
-//! The calls that lines tell.
+//! The calls that lines spell.
 
 ghost use Rattle.std.specs.Prelude.{◌≡◌, IfOk};
-ghost use Rattle.script_api.specs.Fields.{fields, unspaced, behind_first, behind_third, behind_fifth};
-ghost use Rattle.script_api.specs.CallForm.{account_call as account_told, campaign_call as campaign_told, line_call as line_told, negative_call as negative_told, drop_call as drop_told, search_call as search_told, click_call as click_told, call_told as told, places_told};
+ghost use Rattle.script_api.specs.LineFields.{fields, unspaced, behind_first, behind_third, behind_fifth};
+ghost use Rattle.script_api.specs.CallForm.{account_call as account_spelled, campaign_call as campaign_spelled, line_call as line_spelled, negative_call as negative_spelled, drop_call as drop_spelled, search_call as search_spelled, click_call as click_spelled, call_spelled, places_spelled};
 
 use crate::bar::texts_round_bar;
 use crate::command::CallWord;
@@ -15,9 +15,9 @@ use query_words::{NoMemory, Text};
 use std::alloc::Global;
 
 /// The call of a command by the text behind it, or `None` where the text is in another form.
-#[tactic(auto, unfolding(crate::specs::CallForm::call_told))]
-pub fn call_told(alloc: Global, word: CallWord, text: &str) -> Result<Option<Call>, NoMemory>
-    ensures { IfOk result (λ call. call ≡ told word text.now) }
+#[tactic(auto, unfolding(crate::specs::CallForm::call_spelled))]
+pub fn read_call(alloc: Global, word: CallWord, text: &str) -> Result<Option<Call>, NoMemory>
+    ensures { IfOk result (λ call. call ≡ call_spelled word text.now) }
 {
     match word {
         CallWord::Account => account_call(alloc, text),
@@ -33,7 +33,7 @@ pub fn call_told(alloc: Global, word: CallWord, text: &str) -> Result<Option<Cal
 /// `KEY`
 #[tactic(auto, using(crate::proofs::FormLemmas::account_else))]
 fn account_call(alloc: Global, text: &str) -> Result<Option<Call>, NoMemory>
-    ensures { IfOk result (λ call. call ≡ account_told (fields text.now)) }
+    ensures { IfOk result (λ call. call ≡ account_spelled (fields text.now)) }
 {
     let Some(key) = one_field(text) else {
         return Ok(None);
@@ -45,7 +45,7 @@ fn account_call(alloc: Global, text: &str) -> Result<Option<Call>, NoMemory>
 /// `A KEY NUMBER`
 #[tactic(auto, using(crate::proofs::FormLemmas::campaign_else))]
 fn campaign_call(alloc: Global, text: &str) -> Result<Option<Call>, NoMemory>
-    ensures { IfOk result (λ call. call ≡ campaign_told (fields text.now)) }
+    ensures { IfOk result (λ call. call ≡ campaign_spelled (fields text.now)) }
 {
     let Some((account, key, budget)) = three_fields(text) else {
         return Ok(None);
@@ -67,7 +67,7 @@ fn campaign_call(alloc: Global, text: &str) -> Result<Option<Call>, NoMemory>
 /// `A KEY C BID LINK PATTERN | HEADLINE`
 #[tactic(auto, using(crate::proofs::FormLemmas::line_else))]
 fn line_call(alloc: Global, text: &str) -> Result<Option<Call>, NoMemory>
-    ensures { IfOk result (λ call. call ≡ line_told (fields text.now) (unspaced (behind_fifth text.now))) }
+    ensures { IfOk result (λ call. call ≡ line_spelled (fields text.now) (unspaced (behind_fifth text.now))) }
 {
     let Some((account, key, campaign, bid, link, rest)) = first_five(text) else {
         return Ok(None);
@@ -98,7 +98,7 @@ fn line_call(alloc: Global, text: &str) -> Result<Option<Call>, NoMemory>
 /// `A KEY C PATTERN`
 #[tactic(auto, using(crate::proofs::FormLemmas::negative_else))]
 fn negative_call(alloc: Global, text: &str) -> Result<Option<Call>, NoMemory>
-    ensures { IfOk result (λ call. call ≡ negative_told (fields text.now) (unspaced (behind_third text.now))) }
+    ensures { IfOk result (λ call. call ≡ negative_spelled (fields text.now) (unspaced (behind_third text.now))) }
 {
     let Some((account, key, campaign, rest)) = first_three(text) else {
         return Ok(None);
@@ -124,7 +124,7 @@ fn negative_call(alloc: Global, text: &str) -> Result<Option<Call>, NoMemory>
 /// `A KEY N`
 #[tactic(auto, using(crate::proofs::FormLemmas::drop_else))]
 fn drop_call(alloc: Global, text: &str) -> Result<Option<Call>, NoMemory>
-    ensures { IfOk result (λ call. call ≡ drop_told (fields text.now)) }
+    ensures { IfOk result (λ call. call ≡ drop_spelled (fields text.now)) }
 {
     let Some((account, key, negative)) = three_fields(text) else {
         return Ok(None);
@@ -145,7 +145,7 @@ fn drop_call(alloc: Global, text: &str) -> Result<Option<Call>, NoMemory>
 
 /// `N TEXT` or `- TEXT`
 fn search_call(alloc: Global, text: &str) -> Result<Option<Call>, NoMemory>
-    ensures { IfOk result (λ call. call ≡ search_told (fields text.now) (unspaced (behind_first text.now))) }
+    ensures { IfOk result (λ call. call ≡ search_spelled (fields text.now) (unspaced (behind_first text.now))) }
 {
     let Some((places, rest)) = first_field(text) else {
         return Ok(None);
@@ -159,7 +159,7 @@ fn search_call(alloc: Global, text: &str) -> Result<Option<Call>, NoMemory>
 
 /// The places of a search: a number, or none given by `-`.
 fn places_of(field: &str) -> Option<Option<u64>>
-    ensures { result ≡ places_told field.now }
+    ensures { result ≡ places_spelled field.now }
 {
     if field == "-" {
         return Some(None);
@@ -173,7 +173,7 @@ fn places_of(field: &str) -> Option<Option<u64>>
 /// `N`
 #[tactic(auto, using(crate::proofs::FormLemmas::click_else))]
 fn click_call(text: &str) -> Option<Call>
-    ensures { result ≡ click_told (fields text.now) }
+    ensures { result ≡ click_spelled (fields text.now) }
 {
     let placement = number(one_field(text)?)?;
     Some(Call::Click { placement })

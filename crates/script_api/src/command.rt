@@ -3,7 +3,7 @@
 ghost use Rattle.std.specs.Prelude.{◌≡◌};
 ghost use Rattle.script_api.specs.Command.{call_named, other_named};
 
-/// A command that tells a call.
+/// A command by which a call is made.
 #[derive(Clone, Copy, Debug, PartialEq, Eq)]
 pub enum CallWord {
     Account,
@@ -15,7 +15,7 @@ pub enum CallWord {
     Click,
 }
 
-/// A command of which no call can be told yet.
+/// A command of which no call can be made yet.
 #[derive(Clone, Copy, Debug, PartialEq, Eq)]
 pub enum OtherWord {
     Quality,
@@ -29,7 +29,7 @@ pub enum OtherWord {
     Shown,
 }
 
-/// The command of a word, where it tells a call.
+/// The command of a word, where a call is made by it.
 #[tactic(auto, unfolding(crate::specs::Command::call_named))]
 pub fn call_word(word: &str) -> Option<CallWord>
     ensures { result ≡ call_named word.now }
@@ -46,7 +46,7 @@ pub fn call_word(word: &str) -> Option<CallWord>
     }
 }
 
-/// The command of a word, where no call of it can be told yet.
+/// The command of a word, where no call of it can be made yet.
 #[tactic(auto, unfolding(crate::specs::Command::other_named))]
 pub fn other_word(word: &str) -> Option<OtherWord>
     ensures { result ≡ other_named word.now }

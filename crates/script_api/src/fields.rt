@@ -1,7 +1,7 @@
 //! The fields of a text, which spaces part, and the texts behind them; lines that are passed over.
 
 ghost use Rattle.std.specs.Prelude.{◌≡◌, ◌≢◌, ◌<◌, ◌∷◌, [], length, IfSome, MatchOption};
-ghost use Rattle.script_api.specs.Fields.{fields, is_skipped as skips, unspaced, trimmed, behind_first, behind_third, behind_fifth};
+ghost use Rattle.script_api.specs.LineFields.{fields, is_skipped as skips, unspaced, unspaced_end, behind_first, behind_third, behind_fifth};
 
 /// Whether a line is passed over: it is empty or begins with `#`.
 pub fn is_skipped(line: &[u8]) -> bool
@@ -22,7 +22,7 @@ pub fn without_spaces(text: &str) -> &str
 
 /// The text without the spaces at its end.
 pub fn without_end_spaces(text: &str) -> &str
-    ensures { result.now ≡ trimmed text.now }
+    ensures { result.now ≡ unspaced_end text.now }
 {
     text.trim_end_matches(' ')
 }

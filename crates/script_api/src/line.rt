@@ -1,9 +1,9 @@
-//! What a line of a script tells.
+//! What a line of a script spells.
 
 ghost use Rattle.std.specs.Prelude.{◌≡◌, IfOk, Some, None};
-ghost use Rattle.script_api.specs.Script.{script_line, told_by_text as text_tells, not_told as other_tells};
+ghost use Rattle.script_api.specs.Script.{script_line, spelled_by_text, spelled_by_other};
 
-use crate::call::call_told;
+use crate::call::read_call;
 use crate::command::{OtherWord, call_word, other_word};
 use crate::fields::{first_field, is_skipped, without_end_spaces};
 use crate::number::number;
@@ -12,7 +12,7 @@ use desk_types::Call;
 use query_words::NoMemory;
 use std::alloc::Global;
 
-/// What a line of a script tells.
+/// What a line of a script spells.
 #[derive(Debug, Drop)]
 pub enum ScriptLine {
     /// Nothing: the line is empty or begins with `#`.
@@ -24,17 +24,17 @@ pub enum ScriptLine {
         /// The call.
         call: Call,
     },
-    /// A line in the form of a command of which no call can be told yet.
+    /// A line in the form of a command of which no call can be made yet.
     NotBuilt,
     /// The line is in no form.
     Bad,
 }
 
-/// What a line tells: `MOMENT COMMAND` and what the command asks for. The bytes are a line without
+/// What a line spells: `MOMENT COMMAND` and what the command asks for. The bytes are a line without
 /// its end. `NoMemory` is want of memory for the texts of a call.
 #[tactic(auto, unfolding(crate::specs::Script::script_line), using(crate::proofs::LineLemmas::tests_utf8))]
 pub fn read_line(alloc: Global, line: &[u8]) -> Result<ScriptLine, NoMemory>
-    ensures { IfOk result (λ told. told ≡ script_line line.now) }
+    ensures { IfOk result (λ spelled. spelled ≡ script_line line.now) }
 {
     if is_skipped(line) {
         return Ok(ScriptLine::Skipped);
@@ -45,13 +45,13 @@ pub fn read_line(alloc: Global, line: &[u8]) -> Result<ScriptLine, NoMemory>
     if text.starts_with(' ') {
         return Ok(ScriptLine::Bad);
     }
-    told_by_text(alloc, without_end_spaces(text))
+    read_text(alloc, without_end_spaces(text))
 }
 
-/// What a text without spaces at its ends tells.
-#[tactic(auto, unfolding(crate::specs::Script::told_by_text))]
-fn told_by_text(alloc: Global, text: &str) -> Result<ScriptLine, NoMemory>
-    ensures { IfOk result (λ told. told ≡ text_tells text.now) }
+/// What a text without spaces at its ends spells.
+#[tactic(auto, unfolding(crate::specs::Script::spelled_by_text))]
+fn read_text(alloc: Global, text: &str) -> Result<ScriptLine, NoMemory>
+    ensures { IfOk result (λ spelled. spelled ≡ spelled_by_text text.now) }
 {
     let Some((moment, rest)) = first_field(text) else {
         return Ok(ScriptLine::Bad);
@@ -63,17 +63,17 @@ fn told_by_text(alloc: Global, text: &str) -> Result<ScriptLine, NoMemory>
         return Ok(ScriptLine::Bad);
     };
     let Some(word) = call_word(command) else {
-        return Ok(not_told(other_word(command), rest));
+        return Ok(read_other(other_word(command), rest));
     };
-    match call_told(alloc, word, rest)? {
+    match read_call(alloc, word, rest)? {
         Some(call) => Ok(ScriptLine::Timed { moment, call }),
         None => Ok(ScriptLine::Bad),
     }
 }
 
-/// A line by a command of which no call can be told yet.
-fn not_told(word: Option<OtherWord>, text: &str) -> ScriptLine
-    ensures { result ≡ other_tells word text.now }
+/// A line by a command of which no call can be made yet.
+fn read_other(word: Option<OtherWord>, text: &str) -> ScriptLine
+    ensures { result ≡ spelled_by_other word text.now }
 {
     match word {
         Some(word) if is_in_form(word, text) => ScriptLine::NotBuilt,

@@ -4,7 +4,7 @@ ghost use Rattle.std.specs.Prelude.{◌≡◌, ◌<◌, ◌≤◌, ◌^◌, IfSo
 ghost use Rattle.std.specs.Char.{is_ascii_digit};
 ghost use Rattle.std.specs.List.{list_all};
 ghost use Rattle.std.specs.Str.Parse.{digits_value};
-ghost use Rattle.script_api.specs.Number.{is_numeral as spells_number, number as number_told, number_within};
+ghost use Rattle.script_api.specs.Number.{is_numeral as spells_number, number as number_spelled, number_within};
 
 /// The number that a text spells in decimal digits, without sign and without leading zeros,
 /// where it is at least `least` and at most `most`; else `None`.
@@ -27,7 +27,7 @@ pub fn number_in(text: &[u8], least: u64, most: u64) -> Option<u64>
 /// The number below 2^64 that a text spells in decimal digits, without sign and without leading
 /// zeros, or `None` where it spells none.
 pub fn number(text: &str) -> Option<u64>
-    ensures { result ≡ number_told text.now }
+    ensures { result ≡ number_spelled text.now }
 {
     number_in(text.as_bytes(), 0, u64::MAX)
 }

@@ -1,8 +1,8 @@
-//! The forms of the commands of which no call can be told yet.
+//! The forms of the commands of which no call can be made yet.
 
 ghost use Rattle.std.specs.Prelude.{◌≡◌};
-ghost use Rattle.script_api.specs.Fields.{fields};
-ghost use Rattle.script_api.specs.OtherForm.{is_in_form as in_form, is_number as number_told, is_switch as switch_told, is_part as part_told, is_one_number as one_number_told, are_three_numbers as three_numbers_told, is_switched as switched_told, is_keyed_number as keyed_number_told, are_keyed_numbers as keyed_numbers_told, is_pause as pause_told};
+ghost use Rattle.script_api.specs.LineFields.{fields};
+ghost use Rattle.script_api.specs.OtherForm.{is_in_form as in_form, is_number as number_spelled, is_switch as switch_spelled, is_part as part_spelled, is_one_number as one_number_spelled, are_three_numbers as three_numbers_spelled, is_switched as switched_spelled, is_keyed_number as keyed_number_spelled, are_keyed_numbers as keyed_numbers_spelled, is_pause as pause_spelled};
 
 use crate::command::OtherWord;
 use crate::fields::{five_fields, four_fields, one_field, three_fields, two_fields};
@@ -27,21 +27,21 @@ pub fn is_in_form(word: OtherWord, text: &str) -> bool
 
 /// Whether a field spells a number.
 fn is_number(field: &str) -> bool
-    ensures { result ≡ number_told field.now }
+    ensures { result ≡ number_spelled field.now }
 {
     number(field).is_some()
 }
 
 /// Whether a field is `on` or `off`.
 fn is_switch(field: &str) -> bool
-    ensures { result ≡ switch_told field.now }
+    ensures { result ≡ switch_spelled field.now }
 {
     field == "on" || field == "off"
 }
 
 /// Whether a field is `campaign` or `line`.
 fn is_part(field: &str) -> bool
-    ensures { result ≡ part_told field.now }
+    ensures { result ≡ part_spelled field.now }
 {
     field == "campaign" || field == "line"
 }
@@ -49,7 +49,7 @@ fn is_part(field: &str) -> bool
 /// Whether a text is a number.
 #[tactic(auto, using(crate::proofs::FormLemmas::one_number_else))]
 fn is_one_number(text: &str) -> bool
-    ensures { result ≡ one_number_told (fields text.now) }
+    ensures { result ≡ one_number_spelled (fields text.now) }
 {
     match one_field(text) {
         Some(number) => is_number(number),
@@ -60,7 +60,7 @@ fn is_one_number(text: &str) -> bool
 /// Whether a text is three numbers.
 #[tactic(auto, using(crate::proofs::FormLemmas::three_numbers_else))]
 fn are_three_numbers(text: &str) -> bool
-    ensures { result ≡ three_numbers_told (fields text.now) }
+    ensures { result ≡ three_numbers_spelled (fields text.now) }
 {
     match three_fields(text) {
         Some((first, second, third)) => is_number(first) && (is_number(second) && is_number(third)),
@@ -71,7 +71,7 @@ fn are_three_numbers(text: &str) -> bool
 /// Whether a text is a number and a switch.
 #[tactic(auto, using(crate::proofs::FormLemmas::switched_else))]
 fn is_switched(text: &str) -> bool
-    ensures { result ≡ switched_told (fields text.now) }
+    ensures { result ≡ switched_spelled (fields text.now) }
 {
     match two_fields(text) {
         Some((account, switch)) => is_number(account) && is_switch(switch),
@@ -82,7 +82,7 @@ fn is_switched(text: &str) -> bool
 /// Whether a text is a number, a key and a number.
 #[tactic(auto, using(crate::proofs::FormLemmas::keyed_number_else))]
 fn is_keyed_number(text: &str) -> bool
-    ensures { result ≡ keyed_number_told (fields text.now) }
+    ensures { result ≡ keyed_number_spelled (fields text.now) }
 {
     match three_fields(text) {
         Some((account, _, number)) => is_number(account) && is_number(number),
@@ -93,7 +93,7 @@ fn is_keyed_number(text: &str) -> bool
 /// Whether a text is a number, a key and two numbers.
 #[tactic(auto, using(crate::proofs::FormLemmas::keyed_numbers_else))]
 fn are_keyed_numbers(text: &str) -> bool
-    ensures { result ≡ keyed_numbers_told (fields text.now) }
+    ensures { result ≡ keyed_numbers_spelled (fields text.now) }
 {
     match four_fields(text) {
         Some((account, _, first, second)) => is_number(account)
@@ -105,7 +105,7 @@ fn are_keyed_numbers(text: &str) -> bool
 /// Whether a text is a number, a key, a part of an account with its number, and a switch.
 #[tactic(auto, using(crate::proofs::FormLemmas::pause_else))]
 fn is_pause(text: &str) -> bool
-    ensures { result ≡ pause_told (fields text.now) }
+    ensures { result ≡ pause_spelled (fields text.now) }
 {
     match five_fields(text) {
         Some((account, _, part, number, switch)) => is_number(account)

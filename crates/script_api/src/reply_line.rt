@@ -10,7 +10,7 @@ use std::fmt::Write;
 
 /// Appends the line of an answer of the desk, with its line feed. `NoMemory` is want of memory for
 /// the text, of which a beginning may have been appended.
-pub fn write_answer(text: &mut String, answer: &Result<Reply, Fault>) -> Result<(), NoMemory>
+pub fn write_answer_line(text: &mut String, answer: &Result<Reply, Fault>) -> Result<(), NoMemory>
     ensures line { OnOk result (string_bytes text.new ≡ string_bytes text.old ++ answer_line answer.now) }
 {
     write_answer_text(text, answer)?;

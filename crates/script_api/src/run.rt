@@ -4,7 +4,7 @@ ghost use Rattle.std.specs.Prelude.{◌≡◌, ◌≤◌, [], IfSome};
 ghost use Rattle.script_api.specs.ScriptRun.{IsRun, EndCause};
 
 use crate::ending::ScriptEnd;
-use crate::serving::Serving;
+use crate::serving::LineServing;
 use desk_io::{Sink, Source};
 use desk_types::Service;
 use std::alloc::Global;
@@ -41,7 +41,7 @@ pub fn script<V: Service, S: Source, T: Sink>(
     ensures write_faults { (T.sink output.old).faults ≤ (T.sink output.new).faults }
 {
     service.history_is_legal();
-    let Ok(mut serving) = Serving::new(alloc) else {
+    let Ok(mut serving) = LineServing::new(alloc) else {
         return ScriptEnd::NoMemory;
     };
     let end = serving.serve_lines(service, input, output);

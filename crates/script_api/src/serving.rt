@@ -10,11 +10,11 @@ ghost use Rattle.desk_io.specs.NextLine.{ahead};
 ghost use Rattle.script_api.specs.ReplyLine.{answer_line};
 ghost use Rattle.script_api.specs.Script.{script_line};
 ghost use Rattle.script_api.specs.ScriptRun.{EndCause};
-ghost use Rattle.script_api.specs.Turn.{IsPut, IsBroken, ArePut, Takes, ReadsLine, IsLineServed, IsTurn, AreTurns};
+ghost use Rattle.script_api.specs.ScriptTurn.{IsPut, IsBroken, ArePut, Takes, ReadsLine, IsLineServed, IsTurn, AreTurns};
 
-use crate::answers::Answers;
+use crate::answers::AnswerLines;
 use crate::ending::ScriptEnd;
-use crate::limits::{LINE_MAX, LINES_MAX};
+use crate::limits::{INPUT_LINES_MAX, LINE_BYTES_MAX};
 use crate::line::{ScriptLine, read_line};
 use desk_io::{LineGot, LineReader, Sink, Source, WriteFault};
 use desk_types::{Call, Service};
@@ -23,23 +23,23 @@ use std::alloc::Global;
 
 /// What is kept from line to line of a script.
 #[derive(Drop)]
-pub struct Serving {
+pub struct LineServing {
     pub alloc: Global,
     pub reader: LineReader,
-    pub answers: Answers,
+    pub answers: AnswerLines,
 }
 
-impl Serving {
+impl LineServing {
     /// Before the first line.
-    pub fn new(alloc: Global) -> Result<Serving, NoMemory>
-        ensures max { IfOk result (λ serving. serving.reader.max ≡ LINE_MAX) }
+    pub fn new(alloc: Global) -> Result<LineServing, NoMemory>
+        ensures max { IfOk result (λ serving. serving.reader.max ≡ LINE_BYTES_MAX) }
         ensures held { IfOk result (λ serving. serving.reader.held ≡ []) }
         ensures waiting { IfOk result (λ serving. serving.answers ≡ []) }
     {
-        Ok(Serving {
+        Ok(LineServing {
             alloc,
-            reader: LineReader::new(alloc, LINE_MAX)?,
-            answers: Answers::new(alloc)?,
+            reader: LineReader::new(alloc, LINE_BYTES_MAX)?,
+            answers: AnswerLines::new(alloc)?,
         })
     }
 
@@ -50,7 +50,7 @@ impl Serving {
         input: &mut S,
         output: &mut T,
     ) -> ScriptEnd
-        requires max { self.old.reader.max ≡ LINE_MAX }
+        requires max { self.old.reader.max ≡ LINE_BYTES_MAX }
         requires waiting { self.old.answers ≡ [] }
         requires legal { IsLegal (V.opening service.old).settings (V.seen service.old) }
         ensures home { V.home service.new ≡ V.home service.old }
@@ -63,7 +63,7 @@ impl Serving {
         ensures read_faults { (S.source input.old).faults ≤ (S.source input.new).faults }
         ensures write_faults { (T.sink output.old).faults ≤ (T.sink output.new).faults }
     {
-        for number in 1..LINES_MAX + 1 {
+        for number in 1..INPUT_LINES_MAX + 1 {
             if let Err(end) = self.serve_line(number, service, input, output) {
                 return end;
             }
@@ -80,9 +80,9 @@ impl Serving {
         input: &mut S,
         output: &mut T,
     ) -> Result<(), ScriptEnd>
-        requires number { (1 ≤ number) × (number ≤ LINES_MAX) }
-        requires max { self.old.reader.max ≡ LINE_MAX }
-        ensures max { self.new.reader.max ≡ LINE_MAX }
+        requires number { (1 ≤ number) × (number ≤ INPUT_LINES_MAX) }
+        requires max { self.old.reader.max ≡ LINE_BYTES_MAX }
+        ensures max { self.new.reader.max ≡ LINE_BYTES_MAX }
         ensures home { V.home service.new ≡ V.home service.old }
         ensures opening { V.opening service.new ≡ V.opening service.old }
         ensures me { V.me service.new ≡ V.me service.old }
@@ -104,8 +104,8 @@ impl Serving {
 
     /// Sees that the end stands behind the last line that may be.
     fn see_end<S: Source, T: Sink>(&mut self, input: &mut S, output: &mut T) -> ScriptEnd
-        requires max { self.old.reader.max ≡ LINE_MAX }
-        ensures takes { Takes LINES_MAX (ahead self.old.reader (S.source input.old).left) (ahead self.new.reader (S.source input.new).left) self.new.reader.held [] (Err result) }
+        requires max { self.old.reader.max ≡ LINE_BYTES_MAX }
+        ensures takes { Takes INPUT_LINES_MAX (ahead self.old.reader (S.source input.old).left) (ahead self.new.reader (S.source input.new).left) self.new.reader.held [] (Err result) }
         ensures puts { ArePut (T.sink output.old) (T.sink output.new) self.old.answers self.new.answers (Err result) }
         ensures all_read { result ≡ ScriptEnd.Ended → IfSome (S.source input.new).left (λ bytes. bytes ≡ []) }
         ensures cause { EndCause (S.source input.old).faults (S.source input.new).faults (T.sink output.old).faults (T.sink output.new).faults result }
@@ -138,9 +138,9 @@ impl Serving {
 
     /// Reads the numbered line.
     fn next_line<S: Source>(&mut self, number: u64, input: &mut S) -> Result<(), ScriptEnd>
-        requires number { (1 ≤ number) × (number ≤ LINES_MAX) }
-        requires max { self.old.reader.max ≡ LINE_MAX }
-        ensures max { self.new.reader.max ≡ LINE_MAX }
+        requires number { (1 ≤ number) × (number ≤ INPUT_LINES_MAX) }
+        requires max { self.old.reader.max ≡ LINE_BYTES_MAX }
+        ensures max { self.new.reader.max ≡ LINE_BYTES_MAX }
         ensures answers { self.new.answers ≡ self.old.answers }
         ensures reads { ReadsLine (number - 1) (ahead self.old.reader (S.source input.old).left) (ahead self.new.reader (S.source input.new).left) self.new.reader result }
         ensures all_read { result ≡ Err ScriptEnd.Ended → IfSome (S.source input.new).left (λ bytes. bytes ≡ []) }
@@ -198,7 +198,7 @@ impl Serving {
 /// Makes a call and puts the line of its answer.
 fn make_call<V: Service, T: Sink>(
     service: &mut V,
-    answers: &mut Answers,
+    answers: &mut AnswerLines,
     output: &mut T,
     moment: u64,
     call: Call,

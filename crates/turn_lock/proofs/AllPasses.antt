@@ -4,7 +4,7 @@ use Rattle.std.specs.Prelude.{slice_get, Some, None}
 use Rattle.std.specs.List.{AllZip}
 use Rattle.std.proofs.lemmas.Option.{slice_get-get_or, get_or_from_slice_get}
 use Rattle.std.proofs.lemmas.List.Elements.{length_all_zip}
-use Rattle.turn_lock.specs.Shown.{LockValue, PassValue}
+use Rattle.turn_lock.specs.LockValues.{LockValue, PassValue}
 use Rattle.turn_lock.specs.Passes.{AreNew, AreAll, IsSameCaller}
 
 slice_get-below : {X : Type 0} (xs : List X) (k : ℕ) → k < length xs → (x : X) × (slice_get xs k ≡ Some x)

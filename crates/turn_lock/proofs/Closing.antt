@@ -14,7 +14,7 @@ use Rattle.turn_lock.specs.Lists.{IsPrefix, items_by}
 use Rattle.turn_lock.specs.Views.{Knows, IsSpent}
 use Rattle.turn_lock.specs.Rule.{IsHome, IsOut, IsKept, TakesTurns}
 use Rattle.turn_lock.specs.Steps.{Seated}
-use Rattle.turn_lock.specs.Shown.{PassValue}
+use Rattle.turn_lock.specs.LockValues.{PassValue}
 use Rattle.turn_lock.specs.Passes.{joined_of, Unites}
 use Rattle.turn_lock.proofs.ViewLemmas.{knows_one, knows_not_spent, seat_below}
 

@@ -5,7 +5,7 @@ use Rattle.atomic_table.specs.Seated.{TableId}
 use Rattle.turn_lock.specs.declared.view.Known.{Known}
 use Rattle.turn_lock.specs.Views.{newcomer}
 use Rattle.turn_lock.specs.Steps.{Seated, empty_handed, older, newer}
-use Rattle.turn_lock.specs.Shown.{LockId, PassValue, pass_value}
+use Rattle.turn_lock.specs.LockValues.{LockId, PassValue, pass_value}
 use Rattle.turn_lock.specs.Seats.{Rests, IsPassOf}
 use Rattle.turn_lock.specs.Passes.{fresh, AreNew}
 use Rattle.turn_lock.proofs.ViewLemmas.{live_same}

@@ -1,6 +1,6 @@
 pub mod LogLemmas
 pub mod ViewLemmas
-pub mod LineKeeps
+pub mod QueueKeeps
 pub mod RuleKeeps
 pub mod StepKeeps
 pub mod SeatKeeps

@@ -15,7 +15,7 @@ use Rattle.turn_lock.specs.declared.view.View.{View}
 use Rattle.turn_lock.specs.declared.view.View.TheVariants.{Live}
 use Rattle.turn_lock.specs.Lists.{IsPrefix, items_by, GrowsBy}
 use Rattle.turn_lock.specs.Views.{Knows, IsSpent}
-use Rattle.turn_lock.specs.Line.{IsLine, ticket_of}
+use Rattle.turn_lock.specs.Queue.{IsQueue, ticket_of}
 use Rattle.turn_lock.specs.Rule.{IsHome, IsOut, IsKept, Fits, TakesTurns}
 use Rattle.turn_lock.proofs.LogLemmas.{prefix_more, items_by-others}
 use Rattle.turn_lock.proofs.ViewLemmas.{knows_set, knows_one, knows_not_spent, seat_below}
@@ -112,13 +112,13 @@ module _ {V I N : Type 0} (items : V → List I) (by : I → ℕ) (name : V → 
     one_in s r me seat v k t t' at inside at' inside' =
         let a = (r.fits me v at).turn t inside in
         let b = (r.fits seat k at').turn t' inside' in
-        r.line.apart seat me k v r.served at' at (ap ticket_of inside' ∙ ap (λ (n : ℕ). Some n) b.0) (ap ticket_of inside ∙ ap (λ (n : ℕ). Some n) a.0)
+        r.queue.apart seat me k v r.served at' at (ap ticket_of inside' ∙ ap (λ (n : ℕ). Some n) b.0) (ap ticket_of inside ∙ ap (λ (n : ℕ). Some n) a.0)
 
     -- a step that changes one live seat keeps the rule
     pub keeps_step : (s : St) (r : Rule s) (me : ℕ) (v : Known I N) (place : Place) (seen : List I) (words : List ℕ) (homes : List (Maybe (Option V))) (log : List I) (served drawn : ℕ)
         → Knows s.views me v
         → words ≡ drawn % 2 ^ 64 ∷ served % 2 ^ 64 ∷ length log ∷ []
-        → IsLine served drawn (set s.views me (Live (changed v place seen)))
+        → IsQueue served drawn (set s.views me (Live (changed v place seen)))
         → IsHome items by name called log homes (set s.views me (Live (changed v place seen))) ⊎ IsOut items by name called homes (set s.views me (Live (changed v place seen)))
         → GrowsBy by (me + 1) r.log log
         → IsPrefix seen log
@@ -126,7 +126,7 @@ module _ {V I N : Type 0} (items : V → List I) (by : I → ℕ) (name : V → 
         → ((t : ℕ) → place ≡ Inside t → (t ≡ served) × (seen ≡ log))
         → ((seat : ℕ) (k : Known I N) (t : ℕ) → seat ≢ me → Knows s.views seat k → k.place ≡ Inside t → (t ≡ served) × (k.seen ≡ log))
         → Rule record { words = words; homes = homes; views = set s.views me (Live (changed v place seen)) }
-    keeps_step s r me v place seen words homes log served drawn at words_are line slot grows prefix own mine others =
+    keeps_step s r me v place seen words homes log served drawn at words_are queue slot grows prefix own mine others =
         let w = changed v place seen in
         let many : length (set s.views me (Live w)) ≡ length s.views = length-set s.views me (Live w) in
         let below = seat_below s.views me (Live v) at in
@@ -135,7 +135,7 @@ module _ {V I N : Type 0} (items : V → List I) (by : I → ℕ) (name : V → 
           served = served;
           drawn = drawn;
           words = words_are;
-          line = line;
+          queue = queue;
           slot = slot;
           fits = λ seat k there. ⊎_elim
               (λ (e : (seat ≡ me) × (w ≡ k)). subst (λ (x : ℕ × Known I N). Fit log served (set s.views me (Live w)) x.0 x.1) (λ i. (sym e.0 i, e.1 i))

@@ -12,13 +12,13 @@ use Rattle.turn_lock.specs.declared.view.Known.{Known}
 use Rattle.turn_lock.specs.declared.view.View.{View}
 use Rattle.turn_lock.specs.declared.view.View.TheVariants.{Live, Spent}
 use Rattle.turn_lock.specs.Views.{Knows, IsSpent, newcomer}
-use Rattle.turn_lock.specs.Line.{ticket_of}
+use Rattle.turn_lock.specs.Queue.{ticket_of}
 use Rattle.turn_lock.specs.Rule.{IsHome, IsOut, IsKept, Fits, TakesTurns}
 use Rattle.turn_lock.specs.Steps.{Seated, empty_handed, older, newer, joined_with}
 use Rattle.turn_lock.proofs.LogLemmas.{items_by-none}
 use Rattle.turn_lock.proofs.ViewLemmas.{knows_set, knows_spent, knows_one, knows_not_spent, live_same, seat_below}
 use Rattle.turn_lock.proofs.RuleKeeps.{home_set, out_set}
-use Rattle.turn_lock.proofs.LineKeeps.{line_same, line_longer, line_spent}
+use Rattle.turn_lock.proofs.QueueKeeps.{queue_same, queue_longer, queue_spent}
 
 at_end : {A : Type 0} (xs : List A) (a b : A) (i : ℕ) → get_elem? (xs ++ a ∷ []) i ≡ some b → (get_elem? xs i ≡ some b) ⊎ ((i ≡ length xs) × (a ≡ b))
 at_end [] a b zero e = inr (refl, some-injective a b e)
@@ -42,7 +42,7 @@ module _ {V I N : Type 0} (items : V → List I) (by : I → ℕ) (name : V → 
         served = 0;
         drawn = 0;
         words = refl;
-        line = record {
+        queue = record {
           within = λ seat k t at is. absurd (let h : None ≡ Some t = ap (λ (x : Known I N). ticket_of x.place) (only seat k at).1 ∙ is in cc);
           apart = λ seat other k l t at at' is is'. (only seat k at).0 ∙ sym (only other l at').0;
           each = refl;
@@ -133,7 +133,7 @@ module _ {V I N : Type 0} (items : V → List I) (by : I → ℕ) (name : V → 
         served = r.served;
         drawn = r.drawn;
         words = r.words;
-        line = line_longer r.served r.drawn mid new (line_same r.served r.drawn s.views id k old r.line at refl) refl;
+        queue = queue_longer r.served r.drawn mid new (queue_same r.served r.drawn s.views id k old r.queue at refl) refl;
         slot = ⊎_elim
             (λ (h : Home r.log s.homes s.views). inl (home_longer r.log s.homes mid new refl (home_set items by name called r.log s.homes s.views id old not_in h)))
             (λ (h : Out s.homes s.views). inr (out_longer s.homes mid new (out_set items by name called s.homes s.views id k old at not_in h)))
@@ -199,7 +199,7 @@ module _ {V I N : Type 0} (items : V → List I) (by : I → ℕ) (name : V → 
         served = r.served;
         drawn = r.drawn;
         words = r.words;
-        line = line_spent r.served r.drawn mid other l (line_same r.served r.drawn s.views id k new r.line at refl) at' away';
+        queue = queue_spent r.served r.drawn mid other l (queue_same r.served r.drawn s.views id k new r.queue at refl) at' away';
         slot = ⊎_elim
             (λ (h : Home r.log s.homes s.views). inl (home_spent r.log s.homes mid other (home_set items by name called r.log s.homes s.views id new not_in h)))
             (λ (h : Out s.homes s.views). inr (out_spent s.homes mid other l at' not_in' (out_set items by name called s.homes s.views id k new at not_in h)))

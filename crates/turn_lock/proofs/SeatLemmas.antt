@@ -4,7 +4,7 @@ use Rattle.atomic_table.specs.Seated.{TableId}
 use Rattle.turn_lock.specs.declared.view.Known.{Known}
 use Rattle.turn_lock.specs.Views.{is_live, known_of}
 use Rattle.turn_lock.specs.Steps.{Seated}
-use Rattle.turn_lock.specs.Shown.{PassValue, pass_value, TurnValue, turn_value}
+use Rattle.turn_lock.specs.LockValues.{PassValue, pass_value, TurnValue, turn_value}
 use Rattle.turn_lock.specs.Seats.{IsAway, Rests, IsPassOf, IsInside, Holds, IsTurnOf}
 use Rattle.turn_lock.proofs.ViewLemmas.{view_is, known_is}
 

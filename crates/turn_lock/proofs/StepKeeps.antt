@@ -16,12 +16,12 @@ use Rattle.turn_lock.specs.declared.view.View.{View}
 use Rattle.turn_lock.specs.declared.view.View.TheVariants.{Live}
 use Rattle.turn_lock.specs.Lists.{IsPrefix, items_by, GrowsBy}
 use Rattle.turn_lock.specs.Views.{Knows}
-use Rattle.turn_lock.specs.Line.{ticket_of, has_ticket}
+use Rattle.turn_lock.specs.Queue.{ticket_of, has_ticket}
 use Rattle.turn_lock.specs.Rule.{IsHome, IsOut, TakesTurns}
-use Rattle.turn_lock.specs.Steps.{Seated, at_place, seeing, MayDraw, Draws, MayLook, Enters, ComesIn, Looks, MayNote, Notes, MayPassOn, PassesOn}
+use Rattle.turn_lock.specs.Steps.{Seated, moved_to, seeing, MayDraw, Draws, MayLook, Enters, ComesIn, Looks, MayNote, Notes, MayPassOn, PassesOn}
 use Rattle.turn_lock.proofs.LogLemmas.{prefix_same, grows_same}
 use Rattle.turn_lock.proofs.ViewLemmas.{knows_set, knows_one, live_same, seat_below}
-use Rattle.turn_lock.proofs.LineKeeps.{line_same, line_drawn, line_passed}
+use Rattle.turn_lock.proofs.QueueKeeps.{queue_same, queue_drawn, queue_passed}
 use Rattle.turn_lock.proofs.RuleKeeps.{home_set, out_set, one_in, keeps_step, keeps_same}
 
 -- the word after a step that adds one
@@ -32,11 +32,11 @@ module _ {V I N : Type 0} (items : V → List I) (by : I → ℕ) (name : V → 
   abbrev R : State (Option V) (View I N) → Type 0
   R = TakesTurns items by name called callers
 
-  -- a ticket in line is not gone round
+  -- a ticket in the queue is not gone round
   served_is : (s : State (Option V) (View I N)) (r : R s) (me t : ℕ) (k : Known I N) → Knows s.views me k → ticket_of k.place ≡ Some t → r.served % 2 ^ 64 ≡ t % 2 ^ 64 → r.served ≡ t
   served_is s r me t k at ticket e =
-      let h = r.line.within me k t at ticket in
-      let c = r.line.each in
+      let h = r.queue.within me k t at ticket in
+      let c = r.queue.each in
       let few = r.few in
       let most = count_by-le-length (has_ticket {I = I} {N = N}) s.views in
       one_turn r.served t (2 ^ 64) h.0 (omega arith) e
@@ -44,7 +44,7 @@ module _ {V I N : Type 0} (items : V → List I) (by : I → ℕ) (name : V → 
   pub draws : (slots me : ℕ) (k : Known I N) → k.place ≡ Away → Allows R slots me (Live k, []) 0 (λ n. (n + 1) % 2 ^ 64) (Draws (Live k, []))
   draws slots me k away s r _ at _ =
       let t : ℕ = r.drawn in
-      let w : Known I N = at_place k (Waiting t) in
+      let w : Known I N = moved_to k (Waiting t) in
       let word : get_or s.words 0 0 ≡ t % 2 ^ 64 = ap (λ (ws : List ℕ). get_or ws 0 0) r.words in
       let out : (u : ℕ) → k.place ≢ Inside u = λ u e. let h : Away ≡ Inside u = sym away ∙ e in cc in
       let new : (u : ℕ) → w.place ≢ Inside u = λ u e. let h : Waiting t ≡ Inside u = e in cc in
@@ -54,7 +54,7 @@ module _ {V I N : Type 0} (items : V → List I) (by : I → ℕ) (name : V → 
         tt,
         keeps_step items by name called callers s r me k (Waiting t) k.seen (set s.words 0 ((get_or s.words 0 0 + 1) % 2 ^ 64)) s.homes r.log r.served (t + 1) at
             (ap (λ (ws : List ℕ). set ws 0 ((get_or s.words 0 0 + 1) % 2 ^ 64)) r.words ∙ ap (λ (n : ℕ). n ∷ r.served % 2 ^ 64 ∷ length r.log ∷ []) (next_ticket s.words 0 t word))
-            (line_drawn r.served t s.views me k w r.line at away refl)
+            (queue_drawn r.served t s.views me k w r.queue at away refl)
             (⊎_elim (λ (h : IsHome items by name called r.log s.homes s.views). inl (home_set items by name called r.log s.homes s.views me w new h))
             (λ (h : IsOut items by name called s.homes s.views). inr (out_set items by name called s.homes s.views me k w at out h)) r.slot)
             (grows_same by (me + 1) r.log)
@@ -62,7 +62,7 @@ module _ {V I N : Type 0} (items : V → List I) (by : I → ℕ) (name : V → 
             f.own
             (λ u e. absurd (new u e))
             (λ seat l u _ there inside. (r.fits seat l there).turn u inside),
-        (λ k' e. (t, word, ap (λ (x : Known I N). (Live (at_place x (Waiting t)), [])) (live_same k k' (ap (λ (m : Seated V I N). m.0) e)))),
+        (λ k' e. (t, word, ap (λ (x : Known I N). (Live (moved_to x (Waiting t)), [])) (live_same k k' (ap (λ (m : Seated V I N). m.0) e)))),
       )
 
   held_same : (k k' : Known I N) (value value' : V) → (let a : Seated V I N = (Live k, (0, Some value) ∷ []) in let b : Seated V I N = (Live k', (0, Some value') ∷ []) in a ≡ b) → (k ≡ k') × (value ≡ value')
@@ -76,7 +76,7 @@ module _ {V I N : Type 0} (items : V → List I) (by : I → ℕ) (name : V → 
       (λ (h : IsHome items by name called r.log s.homes s.views). h)
       (λ (h : IsOut items by name called s.homes s.views).
       let turn = (r.fits h.seat h.known h.there).turn h.ticket h.inside in
-      let here : h.seat ≡ me = r.line.apart h.seat me h.known k t h.there at (ap ticket_of h.inside ∙ ap (λ (n : ℕ). Some n) (turn.0 ∙ same)) (ap ticket_of waits) in
+      let here : h.seat ≡ me = r.queue.apart h.seat me h.known k t h.there at (ap ticket_of h.inside ∙ ap (λ (n : ℕ). Some n) (turn.0 ∙ same)) (ap ticket_of waits) in
       let one : k ≡ h.known = knows_one s.views me k h.known at (subst (λ (n : ℕ). Knows s.views n h.known) here h.there) in
       let clash : Waiting t ≡ Inside h.ticket = sym waits ∙ (ap (λ (x : Known I N). x.place) one ∙ h.inside) in absurd cc)
       r.slot
@@ -96,7 +96,7 @@ module _ {V I N : Type 0} (items : V → List I) (by : I → ℕ) (name : V → 
       let f = r.fits me k at in
       let log : List I = items h.value in
       let list : log ≡ r.log = h.list in
-      let w : Known I N = seeing (at_place k (Inside t)) log in
+      let w : Known I N = seeing (moved_to k (Inside t)) log in
       let prefix : IsPrefix k.seen log = subst (IsPrefix k.seen) (sym list) f.prefix in
       let own : items_by by k.number log ≡ items_by by k.number k.seen = ap (items_by by k.number) list ∙ f.own in (
         Live w,
@@ -104,7 +104,7 @@ module _ {V I N : Type 0} (items : V → List I) (by : I → ℕ) (name : V → 
         ap (λ (hs : List (Maybe (Option V))). get_elem? hs 0) h.there,
         keeps_step items by name called callers s r me k (Inside t) log (set s.words 1 (get_or s.words 1 0)) (set s.homes 0 none) r.log r.served r.drawn at
             (set-get_or s.words 1 0 ∙ r.words)
-            (line_same r.served r.drawn s.views me k w r.line at (ap (λ (n : ℕ). Some n) refl ∙ sym (ap ticket_of waits)))
+            (queue_same r.served r.drawn s.views me k w r.queue at (ap (λ (n : ℕ). Some n) refl ∙ sym (ap ticket_of waits)))
             (inr record { seat = me; known = w; ticket = t; there = set_here s.views me (Live w) (seat_below s.views me (Live k) at); inside = refl; gone = ap (λ (hs : List (Maybe (Option V))). set hs 0 none) h.there })
             (grows_same by (me + 1) r.log)
             (subst (λ (xs : List I). IsPrefix xs r.log) (sym list) (prefix_same r.log))
@@ -142,7 +142,7 @@ module _ {V I N : Type 0} (items : V → List I) (by : I → ℕ) (name : V → 
         tt,
         keeps_step items by name called callers s r me k k.place log (set s.words 2 n) s.homes log r.served r.drawn at
             (ap (λ (ws : List ℕ). set ws 2 n) r.words ∙ ap (λ (m : ℕ). r.drawn % 2 ^ 64 ∷ r.served % 2 ^ 64 ∷ m ∷ []) long)
-            (line_same r.served r.drawn s.views me k w r.line at refl)
+            (queue_same r.served r.drawn s.views me k w r.queue at refl)
             (⊎_elim (λ (h : IsHome items by name called r.log s.homes s.views). absurd (h.empty me k t at inside))
             (λ (h : IsOut items by name called s.homes s.views). inr record { seat = me; known = w; ticket = t; there = set_here s.views me (Live w) below; inside = inside; gone = h.gone }) r.slot)
             grows
@@ -156,7 +156,7 @@ module _ {V I N : Type 0} (items : V → List I) (by : I → ℕ) (name : V → 
   pub passes : (slots me t : ℕ) (k : Known I N) (value : V) → k.place ≡ Inside t → items value ≡ k.seen → name value ≡ k.name
       → Allows R slots me (Live k, (0, Some value) ∷ []) 1 (λ n. (n + 1) % 2 ^ 64) (λ _. PassesOn (Live k, (0, Some value) ∷ []))
   passes slots me t k value inside list named s r _ at _ =
-      let w : Known I N = at_place k Away in
+      let w : Known I N = moved_to k Away in
       let f = r.fits me k at in
       let turn = f.turn t inside in
       let word : get_or s.words 1 0 ≡ r.served % 2 ^ 64 = ap (λ (ws : List ℕ). get_or ws 1 0) r.words in
@@ -167,7 +167,7 @@ module _ {V I N : Type 0} (items : V → List I) (by : I → ℕ) (name : V → 
         tt,
         keeps_step items by name called callers s r me k Away k.seen (set s.words 1 ((get_or s.words 1 0 + 1) % 2 ^ 64)) (set s.homes 0 (some (Some value))) r.log (r.served + 1) r.drawn at
             (ap (λ (ws : List ℕ). set ws 1 ((get_or s.words 1 0 + 1) % 2 ^ 64)) r.words ∙ ap (λ (n : ℕ). r.drawn % 2 ^ 64 ∷ n ∷ length r.log ∷ []) (next_ticket s.words 1 r.served word))
-            (line_passed r.served r.drawn s.views me k w r.line at (inside ∙ ap (λ (n : ℕ). Inside n) turn.0) refl)
+            (queue_passed r.served r.drawn s.views me k w r.queue at (inside ∙ ap (λ (n : ℕ). Inside n) turn.0) refl)
             (⊎_elim (λ (h : IsHome items by name called r.log s.homes s.views). absurd (h.empty me k t at inside))
             (λ (h : IsOut items by name called s.homes s.views). inl record {
               value = value;
@@ -184,7 +184,7 @@ module _ {V I N : Type 0} (items : V → List I) (by : I → ℕ) (name : V → 
             f.own
             (λ u e. absurd (away u e))
             (λ seat l u other there inside'. absurd (nobody seat l u other there inside')),
-        (λ k' value' e. let h = held_same k k' value value' e in λ i. (Live (at_place (h.0 i) Away), [])),
+        (λ k' value' e. let h = held_same k k' value value' e in λ i. (Live (moved_to (h.0 i) Away), [])),
       )
 
   -- the same for a seat that may make the step

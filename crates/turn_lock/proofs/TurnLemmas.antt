@@ -5,8 +5,8 @@ use Rattle.atomic_table.specs.Seated.{TableId}
 use Rattle.turn_lock.specs.declared.view.Place.TheVariants.{Away, Waiting, Inside}
 use Rattle.turn_lock.specs.declared.view.Known.{Known}
 use Rattle.turn_lock.specs.Lists.{IsPrefix, items_by, GrowsBy}
-use Rattle.turn_lock.specs.Steps.{Seated, holding, at_place, seeing, MayDraw, Draws, MayLook, Enters, ComesIn, MayNote, Notes, MayPassOn, PassesOn}
-use Rattle.turn_lock.specs.Shown.{LockId, PassValue, pass_value, TurnValue, turn_value}
+use Rattle.turn_lock.specs.Steps.{Seated, holding, moved_to, seeing, MayDraw, Draws, MayLook, Enters, ComesIn, MayNote, Notes, MayPassOn, PassesOn}
+use Rattle.turn_lock.specs.LockValues.{LockId, PassValue, pass_value, TurnValue, turn_value}
 use Rattle.turn_lock.specs.Seats.{Rests, IsPassOf, Holds, IsTurnOf}
 use Rattle.turn_lock.proofs.ViewLemmas.{live_same}
 
@@ -19,7 +19,7 @@ module _ {V I N : Type 0} where
 
   pub drawn_looks : (number : ℕ) (me after : Seated V I N) (found : ℕ) → Rests number me → Draws me found after → MayLook after found
   drawn_looks number me after found h draws = let d = draws h.known h.is in
-      record { known = at_place h.known (Waiting d.0); ticket = d.0; is = d.2; waits = refl; same = d.1 }
+      record { known = moved_to h.known (Waiting d.0); ticket = d.0; is = d.2; waits = refl; same = d.1 }
 
 module _ {V I N : Type 0} (items : V → List I) (by : I → ℕ) (name : V → N) where
   -- the caller came in
@@ -29,7 +29,7 @@ module _ {V I N : Type 0} (items : V → List I) (by : I → ℕ) (name : V → 
 
   pub came_in : (number : ℕ) (me drawn after : Seated V I N) (found : ℕ) (h : Rests number me) → Draws me found drawn → ComesIn items by name drawn after → CameIn h.known after
   came_in number me drawn after found h draws comes = let d = draws h.known h.is in
-      let e = comes (at_place h.known (Waiting d.0)) d.0 d.2 refl in
+      let e = comes (moved_to h.known (Waiting d.0)) d.0 d.2 refl in
       record { ticket = d.0; enters = record { value = e.value; out = e.out; prefix = e.prefix; own = e.own; named = e.named } }
 
   held_one : (a b : V) (xs : List (ℕ × Option V)) → xs ≡ (0, Some a) ∷ [] → xs ≡ (0, Some b) ∷ [] → a ≡ b
@@ -39,7 +39,7 @@ module _ {V I N : Type 0} (items : V → List I) (by : I → ℕ) (name : V → 
   pub took_out : (number : ℕ) (me drawn after left : Seated V I N) (found : ℕ) (h : Rests number me) → Draws me found drawn → ComesIn items by name drawn after → left ≡ (after.0, (0, None) ∷ []) → Holds number left
   took_out number me drawn after left found h draws comes is =
       let e = came_in number me drawn after found h draws comes in record {
-        known = seeing (at_place h.known (Inside e.ticket)) (items e.enters.value);
+        known = seeing (moved_to h.known (Inside e.ticket)) (items e.enters.value);
         numbered = h.numbered;
         ticket = e.ticket;
         is = is ∙ ap (λ (m : Seated V I N). (m.0, (0, None) ∷ [])) e.enters.out;
@@ -109,7 +109,7 @@ module _ {V I N : Type 0} (items : V → List I) (by : I → ℕ) (name : V → 
 
     pub rests_again : (noted passed : Seated V I N) → Notes items put noted → PassesOn noted passed → Rests t.number passed
     rests_again noted passed notes passes = record {
-      known = at_place (seeing h.seat.known (items value)) Away;
+      known = moved_to (seeing h.seat.known (items value)) Away;
       numbered = h.seat.numbered;
       is = passes (seeing h.seat.known (items value)) value (notes h.seat.known value put_is);
       away = refl;

@@ -6,7 +6,7 @@ use Rattle.turn_lock.specs.declared.view.Place.TheVariants.{Away}
 use Rattle.turn_lock.specs.declared.view.Joined.{Joined}
 use Rattle.turn_lock.specs.declared.view.Known.{Known}
 use Rattle.turn_lock.specs.Steps.{Seated, empty_handed, joined_with}
-use Rattle.turn_lock.specs.Shown.{PassValue}
+use Rattle.turn_lock.specs.LockValues.{PassValue}
 use Rattle.turn_lock.specs.Seats.{IsPassOf}
 use Rattle.turn_lock.specs.Passes.{joined_of, Unites}
 

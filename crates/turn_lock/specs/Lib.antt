@@ -1,8 +1,8 @@
 pub mod Lists
 pub mod Views
-pub mod Line
+pub mod Queue
 pub mod Rule
 pub mod Steps
-pub mod Shown
+pub mod LockValues
 pub mod Seats
 pub mod Passes

@@ -4,7 +4,7 @@ use Rattle.turn_lock.specs.declared.view.Place.TheVariants.{Away}
 use Rattle.turn_lock.specs.declared.view.Joined.{Joined}
 use Rattle.turn_lock.specs.declared.view.Known.{Known}
 use Rattle.turn_lock.specs.Steps.{Seated, empty_handed}
-use Rattle.turn_lock.specs.Shown.{LockId, LockValue, PassValue}
+use Rattle.turn_lock.specs.LockValues.{LockId, LockValue, PassValue}
 
 -- a pass that has seen nothing
 abbrev pub fresh : {I N : Type 0} → LockId N → ℕ → PassValue I N

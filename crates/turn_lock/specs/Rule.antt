@@ -8,7 +8,7 @@ use Rattle.turn_lock.specs.declared.view.Known.{Known}
 use Rattle.turn_lock.specs.declared.view.View.{View}
 use Rattle.turn_lock.specs.Lists.{IsPrefix, items_by}
 use Rattle.turn_lock.specs.Views.{Knows, IsSpent}
-use Rattle.turn_lock.specs.Line.{IsLine}
+use Rattle.turn_lock.specs.Queue.{IsQueue}
 
 module _ {V I N : Type 0} (items : V → List I) (by : I → ℕ) (name : V → N) (called : N) where
   -- The value is at home, with the lock's list and name, and nobody is in
@@ -48,13 +48,13 @@ module _ {V I N : Type 0} (items : V → List I) (by : I → ℕ) (name : V → 
     pub kept : All (IsKept log views) k.joined
 
   -- Callers take turns: there are a list and two counts of tickets, served and drawn, of which the words tell the drawn, the served and the list's length.
-  -- Those that hold tickets stand in line, the value is at home or out with one of them, each knows what is so, and each item is by a caller's number
+  -- Those that hold tickets stand in a queue, the value is at home or out with one of them, each knows what is so, and each item is by a caller's number
   pub record TakesTurns (callers : ℕ) (s : State (Option V) (View I N)) : Type 0 where
     pub log : List I
     pub served : ℕ
     pub drawn : ℕ
     pub words : s.words ≡ drawn % 2 ^ 64 ∷ served % 2 ^ 64 ∷ length log ∷ []
-    pub line : IsLine served drawn s.views
+    pub queue : IsQueue served drawn s.views
     pub slot : IsHome log s.homes s.views ⊎ IsOut s.homes s.views
     pub fits : (seat : ℕ) (k : Known I N) → Knows s.views seat k → Fits log served s.views seat k
     pub authors : All (λ x. (0 < by x) × (by x ≤ length s.views)) log

@@ -4,7 +4,7 @@ use Rattle.atomic_table.specs.Seated.{TableId}
 use Rattle.turn_lock.specs.declared.view.Place.TheVariants.{Away, Inside}
 use Rattle.turn_lock.specs.declared.view.Known.{Known}
 use Rattle.turn_lock.specs.Steps.{Seated, empty_handed, holding}
-use Rattle.turn_lock.specs.Shown.{PassValue, pass_value, TurnValue, turn_value}
+use Rattle.turn_lock.specs.LockValues.{PassValue, pass_value, TurnValue, turn_value}
 
 -- the seat of a pass with this number has no ticket, took in no other and has no slot out
 pub record IsAway {V I N : Type 0} (number : ℕ) (k : Known I N) (slots : List (ℕ × Option V)) : Type 0 where

@@ -15,8 +15,8 @@ abbrev pub Seated : Type 0 → Type 0 → Type 0 → Type 0
 Seated V I N = Me (Option V) (View I N)
 
 -- the same seat at another place
-abbrev pub at_place : {I N : Type 0} → Known I N → Place → Known I N
-at_place k place = record k { place = place }
+abbrev pub moved_to : {I N : Type 0} → Known I N → Place → Known I N
+moved_to k place = record k { place = place }
 
 -- the same seat, which has seen this list
 abbrev pub seeing : {I N : Type 0} → Known I N → List I → Known I N
@@ -39,7 +39,7 @@ module _ {V I N : Type 0} where
 
   -- it waits with a ticket, which the word found is modulo 2^64
   abbrev pub Draws : Seated V I N → ℕ → Seated V I N → Type 0
-  Draws before found after = (k : Known I N) → before ≡ empty_handed k → (t : ℕ) × (found ≡ t % 2 ^ 64) × (after ≡ empty_handed (at_place k (Waiting t)))
+  Draws before found after = (k : Known I N) → before ≡ empty_handed k → (t : ℕ) × (found ≡ t % 2 ^ 64) × (after ≡ empty_handed (moved_to k (Waiting t)))
 
   -- look: one that waits with a ticket, which this is modulo 2^64
   pub record MayLook (before : Seated V I N) (found : ℕ) : Type 0 where
@@ -53,7 +53,7 @@ module _ {V I N : Type 0} where
     -- it is in and has the value out, whose list begins with what it had seen and has no items by its number but those
     pub record Enters (k : Known I N) (t : ℕ) (after : Seated V I N) : Type 0 where
       pub value : V
-      pub out : after ≡ holding (seeing (at_place k (Inside t)) (items value)) (Some value)
+      pub out : after ≡ holding (seeing (moved_to k (Inside t)) (items value)) (Some value)
       pub prefix : IsPrefix k.seen (items value)
       pub own : items_by by k.number (items value) ≡ items_by by k.number k.seen
       pub named : name value ≡ k.name
@@ -91,7 +91,7 @@ module _ {V I N : Type 0} where
 
   -- it is away, and the value is at home
   abbrev pub PassesOn : Seated V I N → Seated V I N → Type 0
-  PassesOn before after = (k : Known I N) (value : V) → before ≡ holding k (Some value) → after ≡ empty_handed (at_place k Away)
+  PassesOn before after = (k : Known I N) (value : V) → before ≡ holding k (Some value) → after ≡ empty_handed (moved_to k Away)
 
 module _ {I N : Type 0} where
   -- split: the newest seat stays as it is, but is not the newest, and a new seat has the next number

@@ -25,7 +25,7 @@ pub struct TurnLock<V: Grows> {
 
 impl<V: Grows> Model for TurnLock<V> {
     ghost use Rattle.std.specs.Prelude.{◌≡◌, ◌<◌};
-    ghost use Rattle.turn_lock.specs.Shown.{LockValue, lock_code, lock_value};
+    ghost use Rattle.turn_lock.specs.LockValues.{LockValue, lock_code, lock_value};
 
     ghost Value = { LockValue V.Name };
 

@@ -16,7 +16,7 @@ pub struct Pass<V: Grows> {
 }
 
 impl<V: Grows> Model for Pass<V> {
-    ghost use Rattle.turn_lock.specs.Shown.{PassValue, pass_code, pass_value};
+    ghost use Rattle.turn_lock.specs.LockValues.{PassValue, pass_code, pass_value};
     ghost use Rattle.turn_lock.specs.Seats.{IsAway};
     ghost use Rattle.turn_lock.specs.Views.{known_of};
 

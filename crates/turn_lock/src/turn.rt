@@ -16,7 +16,7 @@ pub struct Turn<V: Grows> {
 }
 
 impl<V: Grows> Model for Turn<V> {
-    ghost use Rattle.turn_lock.specs.Shown.{TurnValue, turn_code, turn_value};
+    ghost use Rattle.turn_lock.specs.LockValues.{TurnValue, turn_code, turn_value};
     ghost use Rattle.turn_lock.specs.Seats.{IsInside};
     ghost use Rattle.turn_lock.specs.Views.{known_of};
 
@@ -32,7 +32,7 @@ impl<V: Grows> Model for Turn<V> {
 impl<V: Grows> Turn<V> {
     ghost use Rattle.std.specs.Borrow.{Lends, sem};
     ghost use Rattle.turn_lock.specs.contracts.turn.Turn.{the_row};
-    ghost use Rattle.turn_lock.specs.Shown.{with_value};
+    ghost use Rattle.turn_lock.specs.LockValues.{with_value};
     ghost use Rattle.turn_lock.specs.Seats.{Holds, IsTurnOf};
 
     // The turn of a seat that is in and has taken the value out.

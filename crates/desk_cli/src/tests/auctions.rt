@@ -223,7 +223,7 @@ fn no_value_passes_its_limits(rt: HostRuntime) -> Result<(), Fail> {
 }
 
 /// An auction of so many ads of as many accounts, each with the bid 10 and the quality 10.
-fn auction_of(alloc: Global, ads: u64) -> Result<String, AllocError> {
+fn auction_of(alloc: Global, ads: u64) -> Result<String, NoMemory> {
     let mut text = String::from_str(alloc, "auction 5 0 1\n")?;
     for number in 0..ads {
         let account = number % 1_000_000 + 1;

@@ -4,11 +4,11 @@ use super::*;
 
 /// Checks that words are refused.
 fn check_refused(rt: &(impl Abort + AllocGlobal), words: &[&str]) -> Result<(), Fail> {
-    let told = call(rt.alloc(), words, b"auction 5 0 1\n", WHOLE)?;
+    let wrote = call(rt.alloc(), words, b"auction 5 0 1\n", WHOLE)?;
     let count = words.len();
-    assert_eq!(rt; told.status, 2, "{count} words");
+    assert_eq!(rt; wrote.status, 2, "{count} words");
     assert_eq!(rt;
-        told.output.bytes(),
+        wrote.output.bytes(),
         b"words refused\n".as_slice(),
         "{count} words"
     );

@@ -237,7 +237,7 @@ struct Behind {
 }
 
 /// A heading, then so many lines `#` and an end.
-fn lines_of_comments(alloc: Global, count: usize, end: &[u8]) -> Result<Vec<u8>, AllocError> {
+fn lines_of_comments(alloc: Global, count: usize, end: &[u8]) -> Result<Vec<u8>, NoMemory> {
     let mut bytes = Vec::from_slice(alloc, b"auction 5 0 1\n")?;
     for _ in 0..count {
         bytes.extend_from_slice(b"#\n")?;

@@ -1,6 +1,6 @@
 //! Scripts on a desk.
 
-use super::{Told, Way, call};
+use super::{Way, Wrote, call};
 use std::process::Abort;
 use std::test::Fail;
 
@@ -26,10 +26,10 @@ fn check(
             failing_read: 0,
             failing_write: 0,
         };
-        let told = call(rt.alloc(), &["script"], input.as_bytes(), way)?;
-        assert_eq!(rt; told.status, status, "{lines}, in pieces of {cut}");
+        let wrote = call(rt.alloc(), &["script"], input.as_bytes(), way)?;
+        assert_eq!(rt; wrote.status, status, "{lines}, in pieces of {cut}");
         assert_eq!(rt;
-            told.output.bytes(),
+            wrote.output.bytes(),
             output.as_bytes(),
             "{lines}, in pieces of {cut}"
         );
@@ -86,7 +86,7 @@ fn a_fault_ends_a_script(rt: HostRuntime) -> Result<(), Fail> {
         failing_read: 2,
         failing_write: 0,
     };
-    let Told { status, output } = call(rt.alloc(), &["script"], OPENED.as_bytes(), way)?;
+    let Wrote { status, output } = call(rt.alloc(), &["script"], OPENED.as_bytes(), way)?;
     assert_eq!(rt; status, 3);
     assert_eq!(rt; output.bytes(), b"made 1\nread fault\n".as_slice());
     let way = Way {
@@ -94,7 +94,7 @@ fn a_fault_ends_a_script(rt: HostRuntime) -> Result<(), Fail> {
         failing_read: 0,
         failing_write: 1,
     };
-    let Told { status, output } = call(rt.alloc(), &["script"], OPENED.as_bytes(), way)?;
+    let Wrote { status, output } = call(rt.alloc(), &["script"], OPENED.as_bytes(), way)?;
     assert_eq!(rt; status, 4);
     assert_eq!(rt; output.bytes(), b"".as_slice());
     Ok(())

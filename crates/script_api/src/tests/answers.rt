@@ -1,17 +1,17 @@
 //! The lines of answers.
 
-use crate::write_answer;
+use crate::write_answer_line;
 use desk_types::{Fault, Field, LinkText, Refusal, Reply, Spot};
 use match_types::PatternError;
-use query_words::{List, Text};
-use std::alloc::{AllocError, Global};
+use query_words::{List, NoMemory, Text};
+use std::alloc::Global;
 use std::process::Abort;
 use std::test::Fail;
 
 /// The line of an answer.
-fn line_of(alloc: Global, answer: Result<Reply, Fault>) -> Result<String, AllocError> {
+fn line_of(alloc: Global, answer: Result<Reply, Fault>) -> Result<String, NoMemory> {
     let mut text = String::new(alloc);
-    write_answer(&mut text, &answer)?;
+    write_answer_line(&mut text, &answer)?;
     Ok(text)
 }
 
@@ -22,7 +22,7 @@ fn spot_of(
     place: u64,
     placement: u64,
     price: u64,
-) -> Result<Spot, AllocError> {
+) -> Result<Spot, NoMemory> {
     Ok(Spot {
         place,
         placement,

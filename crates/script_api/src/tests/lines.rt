@@ -1,14 +1,15 @@
-//! What lines tell.
+//! What lines spell.
 
 use crate::{ScriptLine, read_line};
 use desk_types::Call;
-use std::alloc::{AllocError, Global};
+use query_words::NoMemory;
+use std::alloc::Global;
 use std::fmt::Write;
 use std::process::Abort;
 use std::test::Fail;
 
-/// What a line tells, as a text in which `<` and `>` stand round each text of a call.
-fn told(alloc: Global, line: &[u8]) -> Result<String, AllocError> {
+/// What a line spells, as a text in which `<` and `>` stand round each text of a call.
+fn spelling(alloc: Global, line: &[u8]) -> Result<String, NoMemory> {
     let mut text = String::new(alloc);
     match read_line(alloc, line)? {
         ScriptLine::Skipped => text.push_str("skipped")?,
@@ -22,7 +23,7 @@ fn told(alloc: Global, line: &[u8]) -> Result<String, AllocError> {
     Ok(text)
 }
 
-fn write_call(out: &mut String, call: &Call) -> Result<(), AllocError> {
+fn write_call(out: &mut String, call: &Call) -> Result<(), NoMemory> {
     match call {
         Call::AddAccount { key } => write!(out, "account <{}>", key.as_str()),
         Call::AddCampaign {
@@ -66,10 +67,13 @@ fn write_call(out: &mut String, call: &Call) -> Result<(), AllocError> {
     }
 }
 
-/// Checks what lines tell: each row has what it shows, a line, and what that tells.
-fn check_told(rt: &(impl Abort + AllocGlobal), rows: &[(&str, &str, &str)]) -> Result<(), Fail> {
+/// Checks what lines spell: each row has what it shows, a line, and what that spells.
+fn check_spelling(
+    rt: &(impl Abort + AllocGlobal),
+    rows: &[(&str, &str, &str)],
+) -> Result<(), Fail> {
     for (case, line, wanted) in rows {
-        let found = told(rt.alloc(), line.as_bytes())?;
+        let found = spelling(rt.alloc(), line.as_bytes())?;
         assert_eq!(rt; found.as_str(), *wanted, "{case}");
     }
     Ok(())
@@ -78,13 +82,13 @@ fn check_told(rt: &(impl Abort + AllocGlobal), rows: &[(&str, &str, &str)]) -> R
 /// Checks that each of these lines is in no form; a row has what it shows and a line.
 fn check_bad(rt: &(impl Abort + AllocGlobal), rows: &[(&str, &str)]) -> Result<(), Fail> {
     for (case, line) in rows {
-        let found = told(rt.alloc(), line.as_bytes())?;
+        let found = spelling(rt.alloc(), line.as_bytes())?;
         assert_eq!(rt; found.as_str(), "bad", "{case}");
     }
     Ok(())
 }
 
-/// What is shown, a line, and the call that it tells.
+/// What is shown, a line, and the call that it spells.
 const CALLS: [(&str, &str, &str); 25] = [
     ("an account", "1 account secret01", "1: account <secret01>"),
     ("a key that is none", "0 account k", "0: account <k>"),
@@ -182,8 +186,8 @@ const CALLS: [(&str, &str, &str); 25] = [
 ];
 
 #[test]
-fn a_line_in_its_form_tells_its_call(rt: HostRuntime) -> Result<(), Fail> {
-    check_told(&rt, &CALLS)
+fn a_line_in_its_form_spells_its_call(rt: HostRuntime) -> Result<(), Fail> {
+    check_spelling(&rt, &CALLS)
 }
 
 /// What is shown, and a line in no form.
@@ -245,14 +249,14 @@ const BAD_LINES: [(&str, &str); 51] = [
 fn a_line_in_no_form_is_bad(rt: HostRuntime) -> Result<(), Fail> {
     check_bad(&rt, &BAD_LINES)?;
     assert_eq!(rt;
-        told(rt.alloc(), b"6 search - \xFF")?.as_str(),
+        spelling(rt.alloc(), b"6 search - \xFF")?.as_str(),
         "bad",
         "no UTF-8"
     );
     Ok(())
 }
 
-/// What is shown, a line, and what it tells.
+/// What is shown, a line, and what it spells.
 const OTHER_LINES: [(&str, &str, &str); 14] = [
     ("an empty line", "", "skipped"),
     ("a comment", "# 7 click 12", "skipped"),
@@ -276,9 +280,9 @@ const OTHER_LINES: [(&str, &str, &str); 14] = [
 
 #[test]
 fn other_lines_are_skipped_or_not_built(rt: HostRuntime) -> Result<(), Fail> {
-    check_told(&rt, &OTHER_LINES)?;
+    check_spelling(&rt, &OTHER_LINES)?;
     assert_eq!(rt;
-        told(rt.alloc(), b"#\xFF")?.as_str(),
+        spelling(rt.alloc(), b"#\xFF")?.as_str(),
         "skipped",
         "bytes of a comment"
     );

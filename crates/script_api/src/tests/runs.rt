@@ -5,7 +5,8 @@ ghost use Rattle.std.specs.Prelude.{◌≤◌, [], true};
 use crate::{ScriptEnd, script};
 use desk_io::{MemSink, MemSource};
 use desk_types::{Call, Fault, Reply, Service};
-use std::alloc::{AllocError, Global};
+use query_words::NoMemory;
+use std::alloc::Global;
 use std::process::Abort;
 use std::test::Fail;
 
@@ -52,7 +53,7 @@ fn ran(
     cut: u64,
     reads: Vec<u64>,
     writes: Vec<u64>,
-) -> Result<(ScriptEnd, Vec<u8>), AllocError>
+) -> Result<(ScriptEnd, Vec<u8>), NoMemory>
     requires { 1 ≤ cut }
 {
     let mut input = MemSource::new(bytes.to_vec(alloc)?, cut, reads);
@@ -134,7 +135,7 @@ fn a_script_ends_by_its_lines_in_any_pieces(rt: HostRuntime) -> Result<(), Fail>
 }
 
 /// A call, so many bytes of one value, and another call.
-fn around(alloc: Global, byte: u8, count: usize) -> Result<Vec<u8>, AllocError> {
+fn around(alloc: Global, byte: u8, count: usize) -> Result<Vec<u8>, NoMemory> {
     let mut bytes = b"1 click 1\n".to_vec(alloc)?;
     bytes.extend_from_slice(&vec![in alloc; byte; count]?)?;
     bytes.extend_from_slice(b"\n2 click 1\n")?;

@@ -2,7 +2,7 @@ use Rattle.std.proofs.Common.{◌+◌}
 use Rattle.std.specs.Option.{option_map}
 use Rattle.std.specs.Prelude.{None}
 use Rattle.desk_io.specs.NextLine.{ahead}
-use Rattle.desk_cli.specs.Running.{end_of, told_from}
+use Rattle.desk_cli.specs.Running.{end_of, spelled_from}
 use Rattle.desk_io.proofs.Ahead.{none_left}
 use Rattle.desk_cli.proofs.Turns.{turned-line, turned-ended, turned-end, turned-long}
 use Rattle.desk_cli.proofs.auction.take_line.Goals as goal
@@ -19,7 +19,7 @@ pub returns-in-Err-clause-turned : goal.returns-in-Err-clause-turned
 returns-in-Err-clause-turned g c =
     turned-ended c.args.reading.now c.args.number c.line.result.now c.args.reader.now.max
     (ahead c.args.reader.now (g.S.Source.source c.args.input.now).left)
-    (option_map (told_from c.take.new.self (c.args.number + 1)) (ahead c.next.new.self (g.S.Source.source c.next.new.source).left))
+    (option_map (spelled_from c.take.new.self (c.args.number + 1)) (ahead c.next.new.self (g.S.Source.source c.next.new.source).left))
     (end_of c.take.new.self.heading c.args.number c.take.new.self.eligible) c.in-Err.end
     c.requires.max c.requires.number.0 c.requires.number.1 (rw c.line.ensures c.in-Line.ensures.lines.1) c.in-Err.ensures.ended
 

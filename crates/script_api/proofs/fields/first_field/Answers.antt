@@ -1,6 +1,6 @@
 use Rattle.std.proofs.Common.{◌≡◌, ◌<◌, length, arith, lit<}
 use Rattle.std.proofs.lemmas.Bool.Decides.{nat_tests}
-use Rattle.script_api.specs.Fields.{unspaced}
+use Rattle.script_api.specs.LineFields.{unspaced}
 use Rattle.script_api.proofs.FieldLemmas.{cut_some, cut_none, fields-no_text}
 use Rattle.script_api.proofs.fields.first_field.Goals as goal
 

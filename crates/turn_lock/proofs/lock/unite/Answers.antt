@@ -1,7 +1,7 @@
 use Rattle.std.proofs.Common.{rules, ◌≡◌, ◌++◌, ◌∷◌, [], sym, ap, ◌∙◌}
 use Rattle.std.specs.Prelude.{Some}
 use Rattle.std.proofs.lemmas.List.Elements.{All-pop}
-use Rattle.turn_lock.specs.Shown.{PassValue}
+use Rattle.turn_lock.specs.LockValues.{PassValue}
 use Rattle.turn_lock.specs.Steps.{Seated}
 use Rattle.turn_lock.proofs.SeatKeeps.{may_join}
 use Rattle.turn_lock.proofs.Uniting.{table_of, unions_first, unions_more, unions_all, popped_none}

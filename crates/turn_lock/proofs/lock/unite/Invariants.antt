@@ -1,6 +1,6 @@
 use Rattle.std.proofs.Common.{◌≡◌, vec_len}
 use Rattle.std.specs.Prelude.{All}
-use Rattle.turn_lock.specs.Shown.{PassValue}
+use Rattle.turn_lock.specs.LockValues.{PassValue}
 use Rattle.turn_lock.proofs.Uniting.{Unions}
 use Rattle.turn_lock.proofs.lock.unite.Given as goal
 

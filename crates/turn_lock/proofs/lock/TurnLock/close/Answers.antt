@@ -1,7 +1,7 @@
 use Rattle.std.proofs.Common.{◌≡◌, ℕ, ◌<◌, ◌≤◌, ap, sym, subst, ◌∙◌, arith}
 use Rattle.std.specs.Prelude.{All, Any, Some, None}
 use Rattle.turn_lock.specs.Lists.{IsPrefix, items_by}
-use Rattle.turn_lock.specs.Shown.{PassValue, LockValue}
+use Rattle.turn_lock.specs.LockValues.{PassValue, LockValue}
 use Rattle.turn_lock.proofs.Closing.{Ends, ends}
 use Rattle.turn_lock.proofs.lock.TurnLock.close.Given.{Over}
 use Rattle.turn_lock.proofs.lock.TurnLock.close.Goals as goal

@@ -1,5 +1,5 @@
 use Rattle.std.proofs.Common.{◌≡◌, ap, sym, ◌∙◌}
-use Rattle.turn_lock.specs.Shown.{LockId}
+use Rattle.turn_lock.specs.LockValues.{LockId}
 use Rattle.turn_lock.proofs.TurnLemmas.{drawn_looks, came_in, took_out, Entered, entered}
 use Rattle.turn_lock.proofs.lock.TurnLock.enter.Given.{Over}
 use Rattle.turn_lock.proofs.lock.TurnLock.enter.Goals as goal

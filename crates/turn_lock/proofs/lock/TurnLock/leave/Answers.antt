@@ -1,5 +1,5 @@
 use Rattle.std.proofs.Common.{◌≡◌, ap, sym, ◌∙◌}
-use Rattle.turn_lock.specs.Shown.{LockId}
+use Rattle.turn_lock.specs.LockValues.{LockId}
 use Rattle.turn_lock.proofs.TurnLemmas.{may_note, may_pass_on, rests_again, Left, left}
 use Rattle.turn_lock.proofs.lock.TurnLock.leave.Given.{Over}
 use Rattle.turn_lock.proofs.lock.TurnLock.leave.Goals as goal

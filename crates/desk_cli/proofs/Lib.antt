@@ -6,4 +6,4 @@ pub mod Turns
 pub mod Meeting
 pub mod OnPage
 pub mod Answering
-pub mod Fairness
+pub mod Throughout

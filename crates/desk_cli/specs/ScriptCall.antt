@@ -1,11 +1,14 @@
 -- How a call of the program with the word `script` ends.
-use Rattle.std.specs.Prelude.{◌≡◌, ℕ, ◌≤◌, List, [], ◌++◌, codes, decimal}
+use Rattle.std.specs.Prelude.{◌≡◌, ℕ, ◌≤◌, List, [], ◌∷◌, ◌++◌, Option, codes, decimal}
 use Rattle.desk_types.specs.declared.entry.Entry.{Entry}
-use Rattle.desk_types.specs.Eligible.{entrants_for}
-use Rattle.desk_types.specs.LedgerLaws.{IsFairPage, StaysWithinBudgets}
-use Rattle.desk_types.specs.Page.{page}
+use Rattle.desk_types.specs.declared.call.Call.TheVariants.{Search}
+use Rattle.desk_types.specs.declared.reply.Reply.TheVariants.{Page}
+use Rattle.desk_types.specs.declared.reply.Spot.{Spot}
+use Rattle.desk_types.specs.LedgerLaws.{IsPageAnswered}
 use Rattle.desk_types.specs.Run.{run}
-use Rattle.desk_types.specs.Step.{at_moment}
+use Rattle.desk_types.specs.Sound.{StaysWithinBudgets}
+use Rattle.desk_types.specs.State.{State}
+use Rattle.desk_types.specs.Step.{at_moment, step}
 use Rattle.desk_core.specs.DeskValue.{DeskValue, opening}
 use Rattle.desk_io.specs.SinkView.{SinkView}
 use Rattle.desk_io.specs.SourceView.{SourceView}
@@ -46,8 +49,15 @@ pub record IsScriptServed (source source_now : SourceView) (sink sink_now : Sink
   pub no_fewer_faults : (sink.faults ≤ sink_then.faults) × (sink_then.faults ≤ sink_now.faults)
   pub said : IsLastSaid sink_then sink_now end status
 
--- at each moment of the desk's history, spent and escrowed together stay within each budget, and each page has the best ads at the least prices that keep their places
-pub record IsFairThroughout (desk : DeskValue) : Type 0 where
-  pub budgets : (before after : List Entry) → desk.log ≡ before ++ after → StaysWithinBudgets (run (opening desk) before)
-  pub pages : (before after : List Entry) → desk.log ≡ before ++ after → (moment : ℕ) (query : List (List ℕ)) (n : ℕ) →
-      let S = at_moment (run (opening desk) before) moment in IsFairPage S query n (page (entrants_for S query) n)
+-- a search that is answered with a page gives it by the generalised second price
+abbrev pub IsPricedPage : State → Entry → Type 0
+IsPricedPage S e = (text : List ℕ) (places : Option ℕ) (spots : List Spot) →
+    e.call ≡ Search text places → (step S e.moment e.call).reply ≡ Page spots →
+    IsPageAnswered (at_moment S e.moment) text places spots (step S e.moment e.call).state
+
+-- throughout the desk's history, spent and escrowed together stay within each budget, and each page is so priced
+pub record HoldsThroughout (desk : DeskValue) : Type 0 where
+  pub budgets : (before after : List Entry) → desk.log ≡ before ++ after →
+      StaysWithinBudgets (run (opening desk) before)
+  pub pages : (before after : List Entry) (e : Entry) → desk.log ≡ before ++ e ∷ after →
+      IsPricedPage (run (opening desk) before) e

@@ -8,7 +8,7 @@ use Rattle.desk_core.specs.SoloValue.{AreOwn}
 use Rattle.desk_cli.specs.declared.script.Served.{Served}
 use Rattle.desk_cli.specs.Ending.{AreWord, IsAuctionPrintout, IsWritten, refused_printout}
 use Rattle.desk_cli.specs.Printout.{Printout}
-use Rattle.desk_cli.specs.ScriptCall.{IsFairThroughout, IsScriptServed}
+use Rattle.desk_cli.specs.ScriptCall.{HoldsThroughout, IsScriptServed}
 
 -- the words are none that the program takes, and it says so
 pub record IsRefused (words : List (List ℕ)) (sink sink_now : SinkView) (served : Served) : Type 0 where
@@ -33,7 +33,7 @@ pub record IsScript (words : List (List ℕ)) (source source_now : SourceView) (
   pub settings : desk.settings ≡ usual
   pub own : AreOwn 1 desk.log
   pub run : IsScriptServed source source_now sink sink_now desk served.status
-  pub fair : IsFairThroughout desk
+  pub throughout : HoldsThroughout desk
 
 -- how a call ends, by its words
 abbrev pub CallEnds : List (List ℕ) → SourceView → SourceView → SinkView → SinkView → Served → Type 0

@@ -5,7 +5,7 @@ ghost use Rattle.desk_types.specs.SettingsValue.{usual};
 ghost use Rattle.desk_core.specs.SoloValue.{AreOwn};
 ghost use Rattle.desk_cli.specs.Ending.{IsWritten};
 ghost use Rattle.desk_cli.specs.Printout.{Printout, fault_printout};
-ghost use Rattle.desk_cli.specs.ScriptCall.{IsFairThroughout, IsLastSaid, IsScriptServed, not_built_printout};
+ghost use Rattle.desk_cli.specs.ScriptCall.{HoldsThroughout, IsLastSaid, IsScriptServed, not_built_printout};
 
 use crate::answer::{Answer, fault_answer, read_fault_answer, say};
 use crate::fault::LineFault;
@@ -29,7 +29,7 @@ pub fn serve_script<S: Source, T: Sink>(alloc: Global, input: &mut S, output: &m
     ensures settings { result.1.settings ≡ usual }
     ensures own { AreOwn 1 result.1.log }
     ensures served { IsScriptServed (S.source input.old) (S.source input.new) (T.sink output.old) (T.sink output.new) result.1 result.0 }
-    ensures fair { IsFairThroughout result.1 }
+    ensures throughout { HoldsThroughout result.1 }
     ensures all_read { result.0 ≡ 0 → IfSome (S.source input.new).left (λ bytes. bytes ≡ []) }
     ensures read_faults { (S.source input.old).faults ≤ (S.source input.new).faults }
     ensures write_faults { (T.sink output.old).faults ≤ (T.sink output.new).faults }

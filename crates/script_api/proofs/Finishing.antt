@@ -5,7 +5,7 @@ use Rattle.desk_types.specs.declared.call.Call.{Call}
 use Rattle.desk_types.specs.declared.entry.Entry.{Entry}
 use Rattle.desk_types.specs.Journal.{IsLegal}
 use Rattle.desk_types.specs.State.{State}
-use Rattle.desk_types.proofs.ServedInTurn.{Served-none}
+use Rattle.desk_types.proofs.ServedInTurn.{AreServed-none}
 use Rattle.desk_io.specs.NextLine.{ahead}
 use Rattle.desk_io.specs.Reader.{ReaderValue}
 use Rattle.desk_io.specs.SinkView.{SinkView}
@@ -116,7 +116,7 @@ pub run-none : (me : ℕ) (opening : State) (seen : List Entry) (source : Source
 run-none me opening seen source o legal fits = record {
   calls = [];
   results = [];
-  served = Served-none me opening seen legal;
+  served = AreServed-none me opening seen legal;
   made = none source.left;
   cut_off = λ is. absurd (cc);
   lines = ([], Appends_none o fits, ([], refl));

@@ -8,9 +8,9 @@ use Rattle.desk_types.specs.declared.entry.Entry.{Entry}
 use Rattle.desk_types.specs.declared.entry.Fault.{Fault}
 use Rattle.desk_types.specs.declared.reply.Reply.{Reply}
 use Rattle.desk_types.specs.Journal.{IsLegal}
-use Rattle.desk_types.specs.Serving.{Served}
+use Rattle.desk_types.specs.Serving.{AreServed}
 use Rattle.desk_types.specs.State.{State}
-use Rattle.desk_types.proofs.ServedInTurn.{Served-none, Served-append}
+use Rattle.desk_types.proofs.ServedInTurn.{AreServed-none, AreServed-append}
 use Rattle.desk_io.specs.Lines.{Line, lines, first_line, after_first_line}
 use Rattle.desk_io.specs.NextLine.{ahead}
 use Rattle.desk_io.specs.Reader.{ReaderValue}
@@ -120,7 +120,7 @@ cut-turn (Some bytes) (Some rest) reader left before calls more ending taken tak
 pub record AreTurnsSoFar (me : ℕ) (opening : State) (seen seen' : List Entry) (before : ℕ) (whole rest : Option (List ℕ)) (o o' : SinkView) (waiting : List ℕ) : Type 0 where
   pub calls : List (ℕ × Call)
   pub results : List (Result Reply Fault)
-  pub served : Served me opening seen calls results seen'
+  pub served : AreServed me opening seen calls results seen'
   pub taken : AreTaken whole rest before calls
   pub puts : IsPut o o' (flat_map answer_line results) waiting
 
@@ -129,7 +129,7 @@ pub so_far-none : (me : ℕ) (opening : State) (seen : List Entry) (whole : Opti
 so_far-none me opening seen whole o waiting legal fits none = record {
   calls = [];
   results = [];
-  served = Served-none me opening seen legal;
+  served = AreServed-none me opening seen legal;
   taken = taken-start whole;
   puts = IsPut-same o [] waiting fits none;
 }
@@ -143,7 +143,7 @@ module _ (me : ℕ) (opening : State) (seen seen' seen'' : List Entry) (before :
   so_far-more held so_far turn = record {
     calls = so_far.calls ++ turn.calls;
     results = so_far.results ++ turn.results;
-    served = Served-append me opening seen seen' seen'' so_far.calls turn.calls so_far.results turn.results so_far.served turn.served;
+    served = AreServed-append me opening seen seen' seen'' so_far.calls turn.calls so_far.results turn.results so_far.served turn.served;
     taken = taken-turn whole rest now held before so_far.calls turn.calls so_far.taken turn.takes;
     puts = subst (λ all. IsPut o o'' all waiting') (answers-append so_far.results turn.results)
         (IsPut-behind o o' o'' (flat_map answer_line so_far.results) waiting (flat_map answer_line turn.results) waiting' so_far.puts turn.puts);
@@ -154,7 +154,7 @@ module _ (me : ℕ) (opening : State) (seen seen' seen'' : List Entry) (before :
   so_far-end reader left ending so_far turn = record {
     calls = so_far.calls ++ turn.calls;
     results = so_far.results ++ turn.results;
-    served = Served-append me opening seen seen' seen'' so_far.calls turn.calls so_far.results turn.results so_far.served turn.served;
+    served = AreServed-append me opening seen seen' seen'' so_far.calls turn.calls so_far.results turn.results so_far.served turn.served;
     made = made-turn whole rest (ahead reader left) reader.held before so_far.calls turn.calls ending so_far.taken turn.takes;
     cut_off = λ is. cut-turn whole rest reader left before so_far.calls turn.calls ending so_far.taken turn.takes is;
     puts = subst (λ all. ArePut o o'' all waiting' (Err ending)) (answers-append so_far.results turn.results)

@@ -8,7 +8,7 @@ use Rattle.desk_types.specs.declared.reply.Reply.{Reply}
 use Rattle.desk_types.specs.Journal.{IsLegal}
 use Rattle.desk_types.specs.Serving.{Serves}
 use Rattle.desk_types.specs.State.{State}
-use Rattle.desk_types.proofs.ServedInTurn.{Served-none, Served-one}
+use Rattle.desk_types.proofs.ServedInTurn.{AreServed-none, AreServed-one}
 use Rattle.desk_io.specs.Reader.{ReaderValue}
 use Rattle.desk_io.specs.SinkView.{SinkView}
 use Rattle.desk_io.proofs.LineCuts.{cut-none}
@@ -31,7 +31,7 @@ pub serves-none : (me : ℕ) (opening : State) (seen : List Entry) (number : ℕ
 serves-none me opening seen number spelled o waiting going legal makes put = record {
   calls = [];
   results = [];
-  served = Served-none me opening seen legal;
+  served = AreServed-none me opening seen legal;
   makes = makes;
   puts = ArePut-nothing o o waiting waiting going put;
 }
@@ -49,7 +49,7 @@ pub tells : (me : ℕ) (opening : State) (seen seen' : List Entry) (number : ℕ
 tells me opening seen seen' number line o o' waiting waiting' going moment call is failed (answer, serves, put) = record {
   calls = (moment, call) ∷ [];
   results = answer ∷ [];
-  served = Served-one me opening seen seen' moment call answer serves;
+  served = AreServed-one me opening seen seen' moment call answer serves;
   makes = makes-call number moment call line going is failed;
   puts = subst (λ more. ArePut o o' (waiting ++ more) waiting' going) (sym (append-nil (answer_line answer))) put;
 }
@@ -60,7 +60,7 @@ pub turn-no_call : (me : ℕ) (opening : State) (seen : List Entry) (before : �
 turn-no_call me opening seen before whole now held o o' waiting waiting' going legal takes put = record {
   calls = [];
   results = [];
-  served = Served-none me opening seen legal;
+  served = AreServed-none me opening seen legal;
   takes = takes;
   puts = ArePut-nothing o o' waiting waiting' going put;
 }

@@ -1,7 +1,7 @@
 -- The line of an answer.
 use Rattle.std.specs.Prelude.{ℕ, List, [], ◌++◌, length, flat_map, codes, decimal, Result, Ok, Err}
-use Rattle.match_types.specs.declared.reading.PatternError.{PatternError}
-use Rattle.match_types.specs.declared.reading.PatternError.TheVariants as error
+use Rattle.match_types.specs.declared.reading.PatternCause.{PatternCause}
+use Rattle.match_types.specs.declared.reading.PatternCause.TheVariants.{TooLong, Minus, Unclosed, NoWords, TooMany}
 use Rattle.desk_types.specs.declared.entry.Fault.{Fault}
 use Rattle.desk_types.specs.declared.entry.Fault.TheVariants.{Keeper, JournalFull, NoMemory}
 use Rattle.desk_types.specs.declared.refusal.Refusal.{Refusal}
@@ -13,13 +13,12 @@ use Rattle.desk_types.specs.declared.reply.Spot.{Spot}
 use Rattle.desk_types.specs.Refusal.{name_of, detail_of, field_name}
 
 -- the name of the cause for which a text is no pattern
-abbrev pub cause_name : PatternError → List ℕ
-cause_name error.TooLong = codes "TooLong"
-cause_name error.Minus = codes "Minus"
-cause_name error.Unclosed = codes "Unclosed"
-cause_name error.NoWords = codes "NoWords"
-cause_name error.TooMany = codes "TooMany"
-cause_name error.NoMemory = codes "NoMemory"
+abbrev pub cause_name : PatternCause → List ℕ
+cause_name TooLong = codes "TooLong"
+cause_name Minus = codes "Minus"
+cause_name Unclosed = codes "Unclosed"
+cause_name NoWords = codes "NoWords"
+cause_name TooMany = codes "TooMany"
 
 -- a space and the detail of a refusal, where there is one
 abbrev pub detail_text : Detail → List ℕ

@@ -5,7 +5,7 @@ use Rattle.desk_types.specs.declared.call.Call.{Call}
 use Rattle.desk_types.specs.declared.entry.Entry.{Entry}
 use Rattle.desk_types.specs.declared.entry.Fault.{Fault}
 use Rattle.desk_types.specs.declared.reply.Reply.{Reply}
-use Rattle.desk_types.specs.Serving.{Served}
+use Rattle.desk_types.specs.Serving.{AreServed}
 use Rattle.desk_types.specs.State.{State}
 use Rattle.desk_io.specs.Faults.{Rose}
 use Rattle.desk_io.specs.Lines.{has_line_feed}
@@ -60,7 +60,7 @@ AreWritten sink sink_now lines NoMemory = (sent : List ℕ) × Appends sink sink
 pub record IsRun (me : ℕ) (opening : State) (seen seen_now : List Entry) (source source_now : SourceView) (sink sink_now : SinkView) (ending : ScriptEnd) : Type 0 where
   pub calls : List (ℕ × Call)
   pub results : List (Result Reply Fault)
-  pub served : Served me opening seen calls results seen_now
+  pub served : AreServed me opening seen calls results seen_now
   pub made : IfSome source.left (λ bytes. AreMade (script_of bytes) calls ending)
   pub cut_off : ending ≡ ReadFault → IfSome source.left (λ bytes. IsCutOff bytes source_now.left calls)
   pub lines : AreWritten sink sink_now (flat_map answer_line results) ending

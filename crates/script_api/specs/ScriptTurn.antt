@@ -5,7 +5,7 @@ use Rattle.desk_types.specs.declared.call.Call.{Call}
 use Rattle.desk_types.specs.declared.entry.Entry.{Entry}
 use Rattle.desk_types.specs.declared.entry.Fault.{Fault}
 use Rattle.desk_types.specs.declared.reply.Reply.{Reply}
-use Rattle.desk_types.specs.Serving.{Served}
+use Rattle.desk_types.specs.Serving.{AreServed}
 use Rattle.desk_types.specs.State.{State}
 use Rattle.desk_io.specs.Lines.{has_line_feed, lines, first_line, after_first_line}
 use Rattle.desk_io.specs.NextLine.{IsFirstLine}
@@ -93,7 +93,7 @@ MakesCall number spelled calls (Err NoMemory) = ((form_end number spelled ≡ No
 pub record IsLineServed (me : ℕ) (opening : State) (seen seen_now : List Entry) (number : ℕ) (spelled : ScriptLine) (sink sink_now : SinkView) (waiting waiting_now : List ℕ) (going : Going) : Type 0 where
   pub calls : List (ℕ × Call)
   pub results : List (Result Reply Fault)
-  pub served : Served me opening seen calls results seen_now
+  pub served : AreServed me opening seen calls results seen_now
   pub makes : MakesCall number spelled calls going
   pub puts : ArePut sink sink_now (waiting ++ flat_map answer_line results) waiting_now going
 
@@ -101,7 +101,7 @@ pub record IsLineServed (me : ℕ) (opening : State) (seen seen_now : List Entry
 pub record IsTurn (me : ℕ) (opening : State) (seen seen_now : List Entry) (before : ℕ) (ahead ahead_now : Option (List ℕ)) (held_now : List ℕ) (sink sink_now : SinkView) (waiting waiting_now : List ℕ) (going : Going) : Type 0 where
   pub calls : List (ℕ × Call)
   pub results : List (Result Reply Fault)
-  pub served : Served me opening seen calls results seen_now
+  pub served : AreServed me opening seen calls results seen_now
   pub takes : Takes before ahead ahead_now held_now calls going
   pub puts : ArePut sink sink_now (waiting ++ flat_map answer_line results) waiting_now going
 
@@ -109,7 +109,7 @@ pub record IsTurn (me : ℕ) (opening : State) (seen seen_now : List Entry) (bef
 pub record AreTurns (me : ℕ) (opening : State) (seen seen_now : List Entry) (ahead left_now : Option (List ℕ)) (sink sink_now : SinkView) (waiting_now : List ℕ) (ending : ScriptEnd) : Type 0 where
   pub calls : List (ℕ × Call)
   pub results : List (Result Reply Fault)
-  pub served : Served me opening seen calls results seen_now
+  pub served : AreServed me opening seen calls results seen_now
   pub made : IfSome ahead (λ bytes. AreMade (script_of bytes) calls ending)
   pub cut_off : ending ≡ ReadFault → IfSome ahead (λ bytes. IsCutOff bytes left_now calls)
   pub puts : ArePut sink sink_now (flat_map answer_line results) waiting_now (Err ending)

@@ -4,7 +4,7 @@ ghost use Rattle.std.specs.Prelude.{◌≡◌, ◌++◌, OnOk, codes, flat_map, 
 ghost use Rattle.script_api.specs.ReplyLine.{answer_line, answer_text, cause_name as name_of_cause, detail_text, fault_text as text_of_fault, name_text, page_text, refusal_text, reply_text, spot_text};
 
 use desk_types::{Detail, Fault, Refusal, Reply, Spot};
-use match_types::PatternError;
+use match_types::PatternCause;
 use query_words::NoMemory;
 use std::fmt::Write;
 
@@ -131,15 +131,14 @@ fn write_word(text: &mut String, word: &str) -> Result<(), NoMemory>
 }
 
 /// The name of the cause for which a text is no pattern.
-fn cause_name(cause: PatternError) -> &'static str
+fn cause_name(cause: PatternCause) -> &'static str
     ensures { result.now ≡ name_of_cause cause }
 {
     match cause {
-        PatternError::TooLong => "TooLong",
-        PatternError::Minus => "Minus",
-        PatternError::Unclosed => "Unclosed",
-        PatternError::NoWords => "NoWords",
-        PatternError::TooMany => "TooMany",
-        PatternError::NoMemory => "NoMemory",
+        PatternCause::TooLong => "TooLong",
+        PatternCause::Minus => "Minus",
+        PatternCause::Unclosed => "Unclosed",
+        PatternCause::NoWords => "NoWords",
+        PatternCause::TooMany => "TooMany",
     }
 }

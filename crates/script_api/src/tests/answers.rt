@@ -2,7 +2,7 @@
 
 use crate::write_answer_line;
 use desk_types::{Fault, Field, LinkText, Refusal, Reply, Spot};
-use match_types::PatternError;
+use match_types::PatternCause;
 use query_words::{List, NoMemory, Text};
 use std::alloc::Global;
 use std::process::Abort;
@@ -90,7 +90,7 @@ fn a_refusal_has_its_line(rt: HostRuntime) -> Result<(), Fail> {
         (Refusal::NoAccount, "refused NoAccount\n"),
         (Refusal::BadField(Field::Bid), "refused BadField Bid\n"),
         (
-            Refusal::BadPattern(PatternError::Unclosed),
+            Refusal::BadPattern(PatternCause::Unclosed),
             "refused BadPattern Unclosed\n",
         ),
         (Refusal::LineThere(7), "refused LineThere 7\n"),

@@ -9,14 +9,15 @@ use Rattle.desk_types.specs.Journal.{IsLegal, entries_of, is_full}
 use Rattle.desk_types.specs.Run.{run}
 use Rattle.desk_types.specs.Serving.{HasNoFault, with_entry}
 use Rattle.desk_types.specs.SettingsValue.{SettingsValue}
+use Rattle.desk_types.specs.Sound.{IsSound}
 use Rattle.desk_types.specs.State.{State, empty}
 use Rattle.desk_types.specs.Step.{step}
 use Rattle.desk_types.proofs.Editions.{run-append}
 use Rattle.desk_types.proofs.Legality.{legal_answer, legal_empty}
+use Rattle.desk_types.proofs.Sound.{sound_empty, sound_run}
 use Rattle.desk_core.specs.DeskValue.{Answers, IsReached}
 use Rattle.desk_core.specs.JournalValue.{JournalValue}
-use Rattle.desk_core.specs.Sound.{IsSound}
-use Rattle.desk_core.proofs.Reached.{edition_reached, sound_reached}
+use Rattle.desk_core.proofs.Reached.{edition_reached}
 
 pub reached_first : (settings : SettingsValue) (rows : State) (journal : JournalValue) → rows ≡ empty settings → journal.settings ≡ settings → journal.entries ≡ [] → IsReached rows journal
 unfolding run
@@ -30,10 +31,10 @@ reached_first settings rows journal are same none =
 
 -- what a desk needs of its rows
 pub sound_rows : (rows : State) (journal : JournalValue) → IsReached rows journal → IsSound rows
-sound_rows rows journal h = subst IsSound (sym h.run_of_journal) (sound_reached journal.settings journal.entries)
+sound_rows rows journal h = subst IsSound (sym h.run_of_journal) (sound_run (empty journal.settings) journal.entries (sound_empty journal.settings))
 
 pub edition_of_rows : (rows : State) (journal : JournalValue) → IsReached rows journal → rows.edition ≤ length journal.entries
-edition_of_rows rows journal h = subst (λ (S : State). S.edition ≤ length journal.entries) (sym h.run_of_journal) (edition_reached journal.settings journal.entries)
+edition_of_rows rows journal h = subst (λ (S : State). S.edition ≤ length journal.entries) (sym h.run_of_journal) (edition_reached (empty journal.settings) journal.entries)
 
 -- the run with a further answer is a step further
 pub run_more : (S : State) (caller : ℕ) (entries : List Entry) (moment : ℕ) (call : Call) → run S (with_entry caller entries moment call Answered) ≡ (step (run S entries) moment call).state

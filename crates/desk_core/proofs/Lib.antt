@@ -2,9 +2,7 @@ pub mod Charges
 pub mod Desks
 pub mod FindLemmas
 pub mod Journals
-pub mod LineLemmas
 pub mod Moments
-pub mod NegativeLemmas
 pub mod Numbers
 pub mod Pages
 pub mod Placing

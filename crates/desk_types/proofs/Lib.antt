@@ -9,3 +9,8 @@ pub mod Pages
 pub mod PriceLemmas
 pub mod Ranking
 pub mod ServedInTurn
+pub mod Puts
+pub mod InOrder
+pub mod Numbering
+pub mod Budgets
+pub mod Costs

@@ -1,18 +1,9 @@
--- What is looked for, as a test, and what holds of the row that is found.
+-- What holds of the row that is found.
 use Rattle.std.proofs.Common.{◌≡◌, Bool, true, false, not, inl, inr, List, [], ◌∷◌, Some, find, is_none, refl, sym, ◌∙◌, subst}
 use Rattle.std.specs.List.{All, list_any}
 use Rattle.std.proofs.lemmas.Bool.{cases_Bool, cond-true, cond-false}
 use Rattle.std.proofs.lemmas.List.Elements.{All-head, All-tail}
 use Rattle.std.proofs.lemmas.Option.{same_Some}
-
-no_first : {X : Type 0} (p : X → Bool) (x : X) (xs : List X) (passes : Bool) → is_none (find p xs) ≡ not (list_any p xs) → p x ≡ passes → is_none (find p (x ∷ xs)) ≡ not (list_any p (x ∷ xs))
-no_first p x xs true h e = rw e refl
-no_first p x xs false h e = rw e h
-
--- there is no first that passes where nothing passes
-pub none_found : {X : Type 0} (p : X → Bool) (xs : List X) → is_none (find p xs) ≡ not (list_any p xs)
-none_found p [] = refl
-none_found p (x ∷ xs) = no_first p x xs (p x) (none_found p xs) refl
 
 -- what holds of each row holds of the one that is found
 pub All-found : {A : Type 0} (P : A → Type 0) (test : A → Bool) (xs : List A) (x : A) → All P xs → find test xs ≡ Some x → P x

@@ -5,7 +5,7 @@ ghost use Rattle.desk_types.specs.declared.call.Call.{Call};
 ghost use Rattle.desk_types.specs.Judged.{campaign_row, first, owner_rows};
 ghost use Rattle.desk_core.specs.Planned.{IsFirst, IsPlanned, IsStop};
 
-use crate::finds::{count_campaigns, fits_key, has_account, has_campaign};
+use crate::finds::{count_campaigns, fits_key, lacks_account, lacks_campaign};
 use crate::ledger::Ledger;
 use crate::plan::{Changes, Plan};
 use crate::stop::{Stop, when};
@@ -16,25 +16,31 @@ use std::alloc::{AllocError, Global};
 
 impl Ledger {
     /// Judges the account and the key of a call.
-    #[tactic(auto, using(crate::proofs::FindLemmas::none_found))]
     pub(crate) fn judge_owner(&self, account: u64, key: &Text) -> Result<(), Stop>
         ensures passed { OnOk result (first (owner_rows self.now.state.tables account key.now) ≡ None) }
         ensures stopped { IfErr result (IsFirst (owner_rows self.now.state.tables account key.now)) }
     {
-        when(!has_account(&self.accounts, account), Refusal::NoAccount)?;
-        when(!fits_key(&self.accounts, account, key), Refusal::BadKey)
+        when(
+            lacks_account(&self.accounts, account),
+            Refusal::NoAccount,
+        )?;
+        when(
+            !fits_key(&self.accounts, account, key),
+            Refusal::BadKey,
+        )?;
+        Ok(())
     }
 
     /// Judges the campaign of a call.
-    #[tactic(auto, using(crate::proofs::FindLemmas::none_found))]
     pub(crate) fn judge_campaign(&self, account: u64, campaign: u64) -> Result<(), Stop>
         ensures passed { OnOk result (campaign_row self.now.state.tables account campaign ≡ None) }
         ensures stopped { IfErr result (IsFirst (campaign_row self.now.state.tables account campaign ∷ [])) }
     {
         when(
-            !has_campaign(&self.campaigns, account, campaign),
+            lacks_campaign(&self.campaigns, account, campaign),
             Refusal::NoCampaign,
-        )
+        )?;
+        Ok(())
     }
 
     /// Plans an account.

@@ -1,16 +1,16 @@
 //! Rows that are looked for and counted.
 
-ghost use Rattle.std.specs.Prelude.{◌≡◌, ◌<◌, ◌^◌, ◌==◌, ◌&&◌, count_by, bytes_eq};
+ghost use Rattle.std.specs.Prelude.{◌≡◌, ◌<◌, ◌^◌, ◌==◌, ◌&&◌, count_by, find, is_none, bytes_eq};
 ghost use Rattle.std.specs.List.{list_any};
 
 use desk_types::{Account, Campaign, Line, Negative};
 use query_words::Text;
 
-/// Whether there is an account of this number.
-pub(crate) fn has_account(accounts: &[Account], account: u64) -> bool
-    ensures { result ≡ list_any (λ a. a.number == account) accounts.now }
+/// Whether there is no account of this number.
+pub(crate) fn lacks_account(accounts: &[Account], account: u64) -> bool
+    ensures { result ≡ is_none (find (λ a. a.number == account) accounts.now) }
 {
-    accounts.iter().any(|row| row.number == account)
+    accounts.iter().find(|row| row.number == account).is_none()
 }
 
 /// Whether the key is that of the account.
@@ -22,13 +22,14 @@ pub(crate) fn fits_key(accounts: &[Account], account: u64, key: &Text) -> bool
         .any(|row| row.number == account && row.key == *key)
 }
 
-/// Whether the account has a campaign of this number.
-pub(crate) fn has_campaign(campaigns: &[Campaign], account: u64, campaign: u64) -> bool
-    ensures { result ≡ list_any (λ c. c.account == account && c.number == campaign) campaigns.now }
+/// Whether the account has no campaign of this number.
+pub(crate) fn lacks_campaign(campaigns: &[Campaign], account: u64, campaign: u64) -> bool
+    ensures { result ≡ is_none (find (λ c. c.account == account && c.number == campaign) campaigns.now) }
 {
     campaigns
         .iter()
-        .any(|row| row.account == account && row.number == campaign)
+        .find(|row| row.account == account && row.number == campaign)
+        .is_none()
 }
 
 /// Whether the account has a live negative of this number.

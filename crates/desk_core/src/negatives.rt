@@ -35,9 +35,19 @@ impl Ledger {
             Refusal::NoNegative,
         )?;
         Ok(Plan {
-            changes: drop_of(self.negative_of(account, negative))?,
+            changes: self.drop_of(account, negative)?,
             reply: Reply::Done,
         })
+    }
+
+    /// What drops the negative of an account and a number.
+    fn drop_of(&self, account: u64, negative: u64) -> Result<Changes, NoMemory>
+        ensures { IfOk result (λ changes. listed changes ≡ drop_of (negative_of self.now.state.tables account negative)) }
+    {
+        match self.negative_of(account, negative) {
+            Some(found) => Ok(Changes::One(Change::PutNegative(with_live(found, false)?))),
+            None => Ok(Changes::Nothing),
+        }
     }
 
     /// The negative of an account and a number, if there is one.
@@ -163,14 +173,4 @@ fn with_live(negative: &Negative, live: bool) -> Result<Negative, NoMemory>
     let mut row = negative.twin()?;
     row.live = live;
     Ok(row)
-}
-
-/// What drops a negative.
-fn drop_of(found: Option<&Negative>) -> Result<Changes, NoMemory>
-    ensures { IfOk result (λ changes. listed changes ≡ drop_of (option_copied found)) }
-{
-    match found {
-        Some(negative) => Ok(Changes::One(Change::PutNegative(with_live(negative, false)?))),
-        None => Ok(Changes::Nothing),
-    }
 }

@@ -46,6 +46,10 @@ pub sum_by-map : {A : Type 0} (f : A → ℕ) (change : A → A) (xs : List A) �
 sum_by-map f change [] = refl
 sum_by-map f change (x ∷ xs) = omega (arith, sum_by-cons f (change x) (map change xs), sum_by-cons (λ y. f (change y)) x xs, sum_by-map f change xs)
 
+pub sum_by-less : {A : Type 0} (f g : A → ℕ) (xs : List A) → ((x : A) → f x ≤ g x) → sum_by f xs ≤ sum_by g xs
+sum_by-less f g [] less = omega arith
+sum_by-less f g (x ∷ xs) less = omega (arith, sum_by-cons f x xs, sum_by-cons g x xs, sum_by-less f g xs less, less x)
+
 -- the used money is the sum of the costs
 pub used-costs : (S : State) (account campaign day : ℕ) → used S account campaign day ≡ sum_by (cost account campaign day S.moment) S.tables.placements
 unfolding spent escrowed

@@ -40,7 +40,7 @@ AreInOrder-from {A} key [] h = λ i j d low high. absurd (omega (arith, high))
 AreInOrder-from {A} key (r ∷ rows) h =
     AllPairs-cons (λ (s t : A). is_less_key (key s) (key t) ≡ true) r rows (All-from_Each (λ (s : A). is_less_key (key r) (key s) ≡ true) rows h.0) (AreInOrder-from key rows h.1)
 
-in_order-put : {A : Type 0} (key : A → List ℕ) (row : A) (rows : List A) → AreInOrder key rows → AreInOrder key (put_row key row rows)
+pub in_order-put : {A : Type 0} (key : A → List ℕ) (row : A) (rows : List A) → AreInOrder key rows → AreInOrder key (put_row key row rows)
 in_order-put key row rows h = AreInOrder-from key (put_row key row rows) (Ordered-put key row rows (Ordered-from key rows h))
 
 StandInOrder-fate : (T : Tables) (fate : Fate) (found : Option Placement) → StandInOrder T → StandInOrder (put_fate T fate found)

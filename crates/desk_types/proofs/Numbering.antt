@@ -1,5 +1,5 @@
 -- Numbers run from 1 without a gap, where a row that is put is there already or has the next number.
-use Rattle.std.proofs.Common.{◌≡◌, ℕ, suc, zero, ◌+◌, ◌≤◌, ◌<◌, Bool, true, false, ◌==◌, cond, ◌⊎◌, inl, inr, List, [], ◌∷◌, ◌++◌, filter, length, map, refl, sym, ap, subst, ◌∙◌, arith, length-append}
+use Rattle.std.proofs.Common.{◌≡◌, ℕ, suc, zero, ◌+◌, ◌≤◌, ◌<◌, Bool, true, false, ◌==◌, ◌||◌, cond, ◌⊎◌, inl, inr, List, [], ◌∷◌, ◌++◌, filter, length, map, refl, sym, ap, subst, ◌∙◌, arith, length-append}
 use Rattle.std.specs.List.{count_by, range_with_len}
 use Rattle.std.proofs.lemmas.Bool.{cases_Bool, cond-true, cond-false, both_ways, eqb-true, eq-eqb, and_parts}
 use Rattle.std.proofs.lemmas.Bool.Decides.{nat_tests}
@@ -10,7 +10,7 @@ use Rattle.desk_types.specs.Sound.{RunFromOne}
 use Rattle.desk_types.specs.Tables.{has_key, inserted, put_row, replaced}
 use Rattle.desk_types.proofs.EachRow.{Each, Each-mono}
 use Rattle.desk_types.proofs.Legality.{range-more}
-use Rattle.desk_types.proofs.Puts.{Ordered, less-asym, less-trans, put_last, put_new, put_there, same_key}
+use Rattle.desk_types.proofs.Puts.{Ordered, less-asym, less-trans, not-same, put_last, put_new, put_there, same_key}
 
 map_choice : {A : Type 0} (number : A → ℕ) (b : Bool) (x y : A) (l : List A) → number x ≡ number y → map number (cond b (x ∷ l) l) ≡ map number (cond b (y ∷ l) l)
 map_choice number true x y l e = ap (λ n. n ∷ map number l) e
@@ -114,7 +114,7 @@ numbers_below test number (r ∷ rows) a (suc n) run =
       | inr t ↦ (λ is. absurd (both_ways _ t is), numbers_below test number rows a (suc n) (sym (ap (map number) (cond-false (test r) (r ∷ filter test rows) (filter test rows) t)) ∙ run))
     ]
 
-length_kept : {A : Type 0} (test : A → Bool) (rows : List A) → length (filter test rows) ≡ count_by test rows
+pub length_kept : {A : Type 0} (test : A → Bool) (rows : List A) → length (filter test rows) ≡ count_by test rows
 length_kept test [] = refl
 length_kept test (r ∷ rows) =
     elim (cases_Bool (test r)) [
@@ -223,16 +223,20 @@ all_below number (r ∷ rows) a (suc n) run =
 lower_number : (m n : ℕ) → m < n → is_less_key (m ∷ []) (n ∷ []) ≡ true
 lower_number m n h = grind (arith, nat_tests)
 
--- the next row goes last
-pub next_last : {A : Type 0} (key : A → List ℕ) (number : A → ℕ) (row : A) (rows : List A) → ((x : A) → key x ≡ number x ∷ []) → RunFromOne (map number rows)
-    → number row ≡ length rows + 1 → put_row key row rows ≡ rows ++ row ∷ []
-next_last key number row rows is run next =
+next_above : {A : Type 0} (key : A → List ℕ) (number : A → ℕ) (row : A) (rows : List A) → ((x : A) → key x ≡ number x ∷ []) → RunFromOne (map number rows)
+    → number row ≡ length rows + 1 → Each (λ x. is_less_key (key x) (key row) ≡ true) rows
+next_above key number row rows is run next =
     let count = length-map rows number in
-    put_last key row rows (Each-mono (λ x. number x < 1 + length (map number rows)) (λ x. is_less_key (key x) (key row) ≡ true) rows
+    Each-mono (λ x. number x < 1 + length (map number rows)) (λ x. is_less_key (key x) (key row) ≡ true) rows
     (λ x low.
       let lower = lower_number (number x) (number row) (omega (arith, low, count, next)) in
       subst (λ k. is_less_key k (key row) ≡ true) (sym (is x)) (subst (λ k. is_less_key (number x ∷ []) k ≡ true) (sym (is row)) lower))
-    (all_below number rows 1 (length (map number rows)) run))
+    (all_below number rows 1 (length (map number rows)) run)
+
+-- the next row goes last
+pub next_last : {A : Type 0} (key : A → List ℕ) (number : A → ℕ) (row : A) (rows : List A) → ((x : A) → key x ≡ number x ∷ []) → RunFromOne (map number rows)
+    → number row ≡ length rows + 1 → put_row key row rows ≡ rows ++ row ∷ []
+next_last key number row rows is run next = put_last key row rows (next_above key number row rows is run next)
 
 pub numbers-put : {A : Type 0} (key : A → List ℕ) (number : A → ℕ) (row : A) (rows : List A) → ((x : A) → key x ≡ number x ∷ []) → RunFromOne (map number rows)
     → (has_key key (key row) rows ≡ true) ⊎ (number row ≡ length rows + 1) → RunFromOne (map number (put_row key row rows))
@@ -240,3 +244,31 @@ numbers-put key number row rows is run (inl there) = subst RunFromOne (sym (ap (
 numbers-put key number row rows is run (inr next) =
     let whole = ap (map number) (next_last key number row rows is run next) ∙ map-append number rows (row ∷ []) in
     subst RunFromOne (sym whole) (run_more (map number rows) (number row) run (omega (arith, next, length-map rows number)))
+
+-- the next row is new
+none_same : {A : Type 0} (key : A → List ℕ) (row : A) (rows : List A) → Each (λ r. is_less_key (key r) (key row) ≡ true) rows → has_key key (key row) rows ≡ false
+none_same key row [] h = refl
+none_same key row (r ∷ rows) h = (λ i. not-same (key r) (key row) h.0 i || none_same key row rows h.1 i)
+
+pub next_new : {A : Type 0} (key : A → List ℕ) (number : A → ℕ) (row : A) (rows : List A) → ((x : A) → key x ≡ number x ∷ []) → RunFromOne (map number rows)
+    → number row ≡ length rows + 1 → has_key key (key row) rows ≡ false
+next_new key number row rows is run next = none_same key row rows (next_above key number row rows is run next)
+
+none_in_group : {A : Type 0} (key : A → List ℕ) (group : A → ℕ) (row : A) (rows : List A) → ((x : A) → is_same_key (key x) (key row) ≡ true → group x ≡ group row)
+    → Below key row (λ x. group x == group row) rows → has_key key (key row) rows ≡ false
+none_in_group key group row [] alike h = refl
+none_in_group key group row (r ∷ rows) alike h =
+    elim (cases_Bool (is_same_key (key r) (key row))) [
+      | inl t ↦ absurd (both_ways _ (not-same (key r) (key row) (h.0 (eq-eqb (group r) (group row) (alike r t)))) t)
+      | inr t ↦ (λ i. t i || none_in_group key group row rows alike h.1 i)
+    ]
+
+pub group_new : {A : Type 0} (key : A → List ℕ) (group number : A → ℕ) (row : A) (rows : List A) → IsKeyOf key group number → RunInGroups group number rows
+    → number row ≡ count_by (λ x. group x == group row) rows + 1 → has_key key (key row) rows ≡ false
+group_new key group number row rows is runs next =
+    none_in_group key group row rows (λ x same. (pair_parts (group x) (number x) (group row) (number row) (sym (is x) ∙ same_key (key x) (key row) same ∙ is row)).0)
+    (below_next key group number row rows is runs next)
+
+pub run_next : {A : Type 0} (number : A → ℕ) (row : A) (rows : List A) → RunFromOne (map number rows) → number row ≡ length rows + 1 → RunFromOne (map number (rows ++ row ∷ []))
+run_next number row rows run next =
+    subst RunFromOne (sym (map-append number rows (row ∷ []))) (run_more (map number rows) (number row) run (omega (arith, next, length-map rows number)))

@@ -135,7 +135,7 @@ Ordered-put key row rows h =
       | inr t ↦ subst (Ordered key) (sym (put_new key row rows t)) (Ordered-inserted key row rows (none_of (λ r. is_same_key (key r) (key row)) rows t) h)
     ]
 
-not-same : (a b : List ℕ) → is_less_key a b ≡ true → is_same_key a b ≡ false
+pub not-same : (a b : List ℕ) → is_less_key a b ≡ true → is_same_key a b ≡ false
 not-same a b h =
     elim (cases_Bool (is_same_key a b)) [
       | inl t ↦ absurd (both_ways _ (less-irreflexive a) (subst (λ k. is_less_key a k ≡ true) (sym (same_key a b t)) h))

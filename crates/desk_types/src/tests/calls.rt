@@ -3,7 +3,7 @@
 ghost use Rattle.std.specs.Prelude.{[], true};
 
 use crate::{Call, Detail, Fault, Field, Refusal, Reply, Service};
-use match_types::PatternError;
+use match_types::PatternCause;
 use query_words::{Text, Twin};
 use std::test::Fail;
 
@@ -82,10 +82,10 @@ fn refusals_have_a_number_a_name_and_a_detail(rt: HostRuntime) {
             Detail::Field(Field::Bid),
         ),
         (
-            Refusal::BadPattern(PatternError::Minus),
+            Refusal::BadPattern(PatternCause::Minus),
             8,
             "BadPattern",
-            Detail::Cause(PatternError::Minus),
+            Detail::Cause(PatternCause::Minus),
         ),
         (Refusal::LineThere(3), 9, "LineThere", Detail::Number(3)),
         (

@@ -1,0 +1,220 @@
+-- The changes of an accepted call are lawful.
+use Rattle.std.proofs.Common.{◌≡◌, ◌≢◌, ℕ, ◌+◌, ◌≤◌, Bool, true, false, not, ◌==◌, ◌&&◌, ◌||◌, cond, ◌⊎◌, inl, inr, List, [], ◌∷◌, ◌++◌, find, length, map, Option, None, Some, is_some, is_none, option_map, refl, sym, ap, subst, ◌∙◌, arith, length-append}
+use Rattle.std.specs.Prelude.{nat_le}
+use Rattle.std.specs.List.{All, count_by, list_any}
+use Rattle.std.proofs.lemmas.Bool.{cases_Bool, cond-true, cond-false, both_ways, and_parts, and_left, eqb-true, eq-eqb, ne_eqb}
+use Rattle.std.proofs.lemmas.Bool.Decides.{nat_tests}
+use Rattle.std.proofs.lemmas.Option.{same_Some}
+use Rattle.query_words.specs.Words.{words_of}
+use Rattle.desk_types.specs.declared.limits.TheConstants.{BID_MIN, BID_MAX, QUALITY_NEW}
+use Rattle.desk_types.specs.declared.call.Call.{Call}
+use Rattle.desk_types.specs.declared.call.Call.TheVariants.{AddAccount, AddCampaign, AddLine, AddNegative, DropNegative, Search, Click}
+use Rattle.desk_types.specs.declared.refusal.Refusal.{Refusal}
+use Rattle.desk_types.specs.declared.rows.BudgetSet.{BudgetSet}
+use Rattle.desk_types.specs.declared.rows.Campaign.{Campaign}
+use Rattle.desk_types.specs.declared.rows.Fate.TheVariants.{Open, Settled}
+use Rattle.desk_types.specs.declared.rows.Line.{Line}
+use Rattle.desk_types.specs.declared.rows.Negative.{Negative}
+use Rattle.desk_types.specs.declared.rows.Placement.{Placement}
+use Rattle.desk_types.specs.declared.tables.Change.{Change}
+use Rattle.desk_types.specs.declared.tables.Change.TheVariants.{PutAccount, PutCampaign, PutBudget, PutLine, PutNegative, PutPlacement, PutFate}
+use Rattle.desk_types.specs.AdValue.{AdValue, IsBid, IsInRange}
+use Rattle.desk_types.specs.Changes.{all_placed, changes, drop_of, line_made, live_again, negative_made, placed, placements_for, settlement}
+use Rattle.desk_types.specs.Day.{day_of}
+use Rattle.desk_types.specs.Eligible.{ad_of, entrants_for}
+use Rattle.desk_types.specs.Judged.{AskedLine, dropped_negative, first, is_dropped_like, is_within, judged, page_of, places_of, refusals, when}
+use Rattle.desk_types.specs.Keys.{budget_key, campaign_key, is_same_key, line_key, negative_key, placement_key}
+use Rattle.desk_types.specs.Money.{budget, escrowed, is_escrowed, is_set_by, is_shown_on, spent, used}
+use Rattle.desk_types.specs.Price.{price}
+use Rattle.desk_types.specs.Sound.{IsSound}
+use Rattle.desk_types.specs.State.{State}
+use Rattle.desk_types.specs.Tables.{campaign_of, campaigns_of, has_key, line_of, negative_of, placement_of, put, put_row}
+use Rattle.desk_types.proofs.Budgets.{budget-none}
+use Rattle.desk_types.proofs.Costs.{cost, cost-other, free-pays, used-costs}
+use Rattle.desk_types.proofs.EachRow.{Each}
+use Rattle.desk_types.proofs.SecondPrice.{LinesInRange, apart_entrants, apart_page, entrant_line, fit_entrant, lines_in_range, page_among}
+use Rattle.desk_types.proofs.InOrder.{Each-from_All}
+use Rattle.desk_types.proofs.Accounts.{AreApart}
+use Rattle.desk_types.proofs.Lawful.{AreLawful, IsLawful, IsOnward, IsPayable, changed, finds_one, finds_two, found_all, used-shown, within_used}
+use Rattle.desk_types.proofs.Members.{Has}
+use Rattle.desk_types.proofs.Numbering.{group_new, next_last, next_new}
+use Rattle.desk_types.proofs.PriceLemmas.{price-le-bid}
+use Rattle.desk_types.proofs.Puts.{FindsKey, find-put_same, has-find, key_same}
+use Rattle.desk_types.proofs.Sound.{sound_put}
+
+-- a table of which no refusal holds
+pub none_holds : (rows : List (Option Refusal)) → first rows ≡ None → Each (λ o. o ≡ None) rows
+none_holds [] h = tt
+none_holds (None ∷ rows) h = (refl, none_holds rows h)
+none_holds (Some r ∷ rows) h = absurd cc
+
+pub not_when : (b : Bool) (r : Refusal) → when b r ≡ None → b ≡ false
+not_when false r h = refl
+not_when true r h = absurd cc
+
+or_right : (a b : Bool) → b ≡ true → (a || b) ≡ true
+or_right true b h = refl
+or_right false b h = h
+
+-- a row that was found has its key there
+found_has : {A : Type 0} (key : A → List ℕ) (test : A → Bool) (rows : List A) (x : A) → find test rows ≡ Some x → has_key key (key x) rows ≡ true
+found_has key test [] x h = absurd cc
+found_has key test (r ∷ rows) x h =
+    elim (cases_Bool (test r)) [
+      | inl t ↦
+          let e : r ≡ x = same_Some r x (sym (cond-true (test r) (Some r) (find test rows) t) ∙ h) in
+          ap (λ b. b || has_key key (key x) rows) (key_same (key r) (key x) (ap key e))
+      | inr t ↦ or_right (is_same_key (key r) (key x)) (has_key key (key x) rows) (found_has key test rows x (sym (cond-false (test r) (Some r) (find test rows) t) ∙ h))
+    ]
+
+-- the settings of a campaign are those of one that is there
+no_setting : (S : State) (account campaign day : ℕ) (bs : List BudgetSet) → is_some (campaign_of S.tables account campaign) ≡ false
+    → Each (λ b. is_some (campaign_of S.tables b.account b.campaign) ≡ true) bs → Each (λ b. is_set_by account campaign day b ≡ false) bs
+no_setting S account campaign day [] unknown there = tt
+no_setting S account campaign day (b ∷ bs) unknown there = (
+  elim (cases_Bool (is_set_by account campaign day b)) [
+    | inl t ↦
+        let first = and_parts (b.account == account) (b.campaign == campaign && nat_le (day_of b.at) day) t in
+        let rest = and_parts (b.campaign == campaign) (nat_le (day_of b.at) day) first.1 in
+        absurd (both_ways _ unknown (subst (λ n. is_some (campaign_of S.tables n campaign) ≡ true) (eqb-true b.account account first.0)
+        (subst (λ n. is_some (campaign_of S.tables b.account n) ≡ true) (eqb-true b.campaign campaign rest.0) there.0)))
+    | inr t ↦ t
+  ],
+  no_setting S account campaign day bs unknown there.1,
+)
+
+none_of_false : {A : Type 0} (o : Option A) → is_some o ≡ false → o ≡ None
+none_of_false None h = refl
+none_of_false (Some x) h = absurd cc
+
+-- the next campaign of an account is new, and has no budget setting
+lawful_campaign : (S : State) (account amount : ℕ) → IsSound S → let number = campaigns_of S.tables account + 1 in
+    AreLawful S (PutCampaign (record { account = account; number = number; on = true }) ∷ PutBudget (record { account = account; campaign = number; at = S.moment; amount = amount }) ∷ [])
+unfolding put spent escrowed
+lawful_campaign S account amount h =
+    let number = campaigns_of S.tables account + 1 in
+    let made : Campaign = record { account = account; number = number; on = true } in
+    let test = λ (c : Campaign). c.account == account && c.number == number in
+    let finds = finds_two campaign_key (λ (c : Campaign). c.account) (λ c. c.number) account number (λ x. refl) in
+    let new = group_new campaign_key (λ (c : Campaign). c.account) (λ c. c.number) made S.tables.campaigns (λ x. refl) h.numbered.campaigns refl in
+    let unknown : is_some (campaign_of S.tables account number) ≡ false = sym (has-find campaign_key (account ∷ number ∷ []) test S.tables.campaigns finds) ∙ new in
+    (
+      inr refl,
+      (record {
+        there = ap is_some (find-put_same campaign_key made test S.tables.campaigns finds);
+        covers = λ day later.
+            let none = budget-none S account number day (no_setting S account number day S.tables.budgets unknown (Each-from_All (λ (b : BudgetSet). is_some (campaign_of S.tables b.account b.campaign) ≡ true) S.tables.budgets h.named.budgets)) in
+            omega (arith, none, within_used S h.within_budgets account number day);
+      }, tt),
+    )
+
+from_not : (b : Bool) → not b ≡ false → b ≡ true
+from_not true h = refl
+from_not false h = absurd cc
+
+bid_in : (bid : ℕ) → is_within BID_MIN BID_MAX bid ≡ true → IsBid bid
+bid_in bid within = grind (arith, nat_tests, within)
+
+-- the line that is made has a bid in range, and is the account's next one
+lawful_line : (S : State) (account : ℕ) (asked : AskedLine) → IsSound S → is_within BID_MIN BID_MAX asked.bid ≡ true → AreLawful S (PutLine (line_made S.tables account asked) ∷ [])
+lawful_line S account asked h within =
+    let made : Line = line_made S.tables account asked in
+    let test = λ (l : Line). l.account == account && l.number == made.number in
+    let finds = finds_two line_key (λ (l : Line). l.account) (λ l. l.number) account made.number (λ x. refl) in
+    let new = group_new line_key (λ (l : Line). l.account) (λ l. l.number) made S.tables.lines (λ x. refl) h.numbered.lines refl in
+    let unknown : is_some (line_of S.tables account made.number) ≡ false = sym (has-find line_key (account ∷ made.number ∷ []) test S.tables.lines finds) ∙ new in
+    (
+      record {
+        in_range = (bid_in asked.bid within, (omega arith, omega arith));
+        next = inr refl;
+        same_link = λ old known. absurd (both_ways _ unknown (ap is_some known));
+      },
+      tt,
+    )
+
+lawful_live : (S : State) (account campaign : ℕ) (new : Negative) (dropped : Option Negative) (test : Negative → Bool) → find test S.tables.negatives ≡ dropped
+    → new.number ≡ count_by (λ (n : Negative). n.account == new.account) S.tables.negatives + 1 → AreLawful S (PutNegative (live_again new dropped) ∷ [])
+lawful_live S account campaign new None test is next = (inr next, tt)
+lawful_live S account campaign new (Some d) test is next = (inl (found_has negative_key test S.tables.negatives d is), tt)
+
+lawful_drop : (S : State) (test : Negative → Bool) (found : Option Negative) → find test S.tables.negatives ≡ found → AreLawful S (drop_of found)
+lawful_drop S test None is = tt
+lawful_drop S test (Some n) is = (inl (found_has negative_key test S.tables.negatives n is), tt)
+
+-- a placement whose price is escrowed is settled
+lawful_click : (S : State) (placement : ℕ) (found : Option Placement) → placement_of S.tables placement ≡ found → IsSound S → AreLawful S (settlement S.moment found)
+lawful_click S placement None is h = tt
+lawful_click S placement (Some p) is h =
+    elim (cases_Bool (is_escrowed S.moment p)) [
+      | inl t ↦
+          let known = found_all (λ (x : Placement). is_some (line_of S.tables x.account x.line) ≡ true) (λ (x : Placement). x.number == placement) S.tables.placements p h.named.placements is in
+          let found : placement_of S.tables p.number ≡ Some p = subst (λ n. placement_of S.tables n ≡ Some p) (sym (eqb-true p.number placement known.1)) is in
+          subst (AreLawful S) (sym (cond-true _ (PutFate p.number (Settled S.moment) ∷ []) [] t)) (subst (IsOnward S.moment (Settled S.moment)) (sym found) t, tt)
+      | inr t ↦ subst (AreLawful S) (sym (cond-false _ (PutFate p.number (Settled S.moment) ∷ []) [] t)) tt
+    ]
+
+-- ads that can be paid: their lines are there, and their bids are free
+record IsPaid (S R : State) (entered : List AdValue) (a : AdValue) : Type 0 where
+  price_below : price S.settings.reserve S.settings.floor entered a ≤ a.bid
+  line : is_some (line_of R.tables a.account a.line) ≡ true
+  fits : a.bid + used R a.account a.campaign (day_of S.moment) ≤ budget R a.account a.campaign (day_of S.moment)
+
+-- a placement of another account leaves an ad as it is
+still_paid : (S R : State) (entered : List AdValue) (number : ℕ) (a b : AdValue) → IsSound R → R.moment ≡ S.moment → number ≡ length R.tables.placements + 1 → a.account ≢ b.account
+    → IsPaid S R entered b → IsPaid S (changed R (PutPlacement (placed S entered number a))) entered b
+unfolding put budget
+still_paid S R entered number a b h moment next other paid =
+    let p : Placement = placed S entered number a in
+    let T : State = changed R (PutPlacement p) in
+    let new = next_new placement_key (λ (x : Placement). x.number) p R.tables.placements (λ x. refl) h.numbered.placements next in
+    let day = day_of S.moment in
+    let shown : used T b.account b.campaign day ≡ cost b.account b.campaign day R.moment p + used R b.account b.campaign day = used-shown R T p b.account b.campaign day refl refl new in
+    let free = cost-other b.account b.campaign day R.moment p (and_left (a.account == b.account) _ (ne_eqb a.account b.account other)) in
+    record { price_below = paid.price_below; line = paid.line; fits = omega (arith, shown, free, paid.fits) }
+
+-- the placements of a page, one after another
+lawful_placed : (S R : State) (entered : List AdValue) (number : ℕ) (ads : List AdValue) → IsSound R → R.moment ≡ S.moment → number ≡ length R.tables.placements + 1 → AreApart ads
+    → ((a : AdValue) → Has ads a → IsPaid S R entered a) → AreLawful R (map PutPlacement (all_placed S entered number ads))
+unfolding put
+lawful_placed S R entered number [] h moment next apart paid = tt
+lawful_placed S R entered number (a ∷ ads) h moment next apart paid =
+    let p : Placement = placed S entered number a in
+    let pays = paid a (inl refl) in
+    let payable : IsPayable R p = record { next = next; unclicked = refl; line = pays.line; fits = omega (arith, pays.price_below, pays.fits) } in
+    let longer : length (put_row placement_key p R.tables.placements) ≡ length R.tables.placements + 1 =
+    ap length (next_last placement_key (λ (x : Placement). x.number) p R.tables.placements (λ x. refl) h.numbered.placements next) ∙ length-append R.tables.placements (p ∷ []) in
+    (
+      payable,
+      lawful_placed S (changed R (PutPlacement p)) entered (number + 1) ads (sound_put R (PutPlacement p) h payable) moment (omega (arith, next, longer)) apart.1
+          (λ b k. still_paid S R entered number a b h moment next (apart.0 b k) (paid b (inr k))),
+    )
+
+lawful_search : (S : State) (text : List ℕ) (places : Option ℕ) → IsSound S → AreLawful S (map PutPlacement (placements_for S text places))
+lawful_search S text places h =
+    let query = words_of text in
+    let entered = entrants_for S query in
+    let in_range = lines_in_range S h in
+    let apart = apart_entrants S query in_range in
+    lawful_placed S S entered (length S.tables.placements + 1) (page_of S text places) h refl refl (apart_page entered (places_of S places) apart)
+    (λ a k.
+      let among = page_among entered (places_of S places) a apart k in
+      let fit = fit_entrant S query a in_range among in
+      record {
+        price_below = price-le-bid S.settings.reserve S.settings.floor entered a fit.reserve;
+        line = entrant_line S query a among;
+        fits = free-pays a.bid _ _ _ fit.paid;
+      })
+
+pub lawful_call : (S : State) (call : Call) → IsSound S → judged S call ≡ None → AreLawful S (changes S call)
+unfolding changes refusals
+lawful_call S (AddAccount key) h accepts = (inr refl, tt)
+lawful_call S (AddCampaign account key budget) h accepts = lawful_campaign S account budget h
+lawful_call S (AddLine account key campaign bid pattern headline link) h accepts =
+    let asked : AskedLine = record { campaign = campaign; bid = bid; pattern = pattern; headline = headline; link = link } in
+    let none = none_holds (refusals S (AddLine account key campaign bid pattern headline link)) accepts in
+    lawful_line S account asked h (from_not (is_within BID_MIN BID_MAX bid) (not_when _ _ none.1.1.1.0))
+lawful_call S (AddNegative account key campaign pattern) h accepts =
+    lawful_live S account campaign _ (dropped_negative S.tables account campaign pattern) _ refl refl
+lawful_call S (DropNegative account key negative) h accepts = lawful_drop S _ (negative_of S.tables account negative) refl
+lawful_call S (Search text places) h accepts = lawful_search S text places h
+lawful_call S (Click placement) h accepts = lawful_click S placement (placement_of S.tables placement) refl h

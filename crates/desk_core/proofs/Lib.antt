@@ -9,5 +9,5 @@ pub mod Placing
 pub mod Reached
 pub mod Searching
 pub mod Tables
-pub mod Putting
+pub mod Places
 pub mod Rooms

@@ -1,15 +1,17 @@
--- The edition of each state that is reached.
-use Rattle.std.proofs.Common.{◌≡◌, ℕ, ◌+◌, ◌≤◌, Bool, true, false, Option, None, Some, List, [], ◌∷◌, length, arith}
+-- The edition of each state that is reached, and the state after an accepted call.
+use Rattle.std.proofs.Common.{◌≡◌, ℕ, ◌+◌, ◌≤◌, Bool, true, false, Option, None, Some, List, [], ◌∷◌, length, ap, ◌∙◌, arith}
 use Rattle.desk_types.specs.declared.call.Call.{Call}
 use Rattle.desk_types.specs.declared.entry.Entry.{Entry}
 use Rattle.desk_types.specs.declared.entry.Outcome.{Outcome}
 use Rattle.desk_types.specs.declared.entry.Outcome.TheVariants.{Answered, Faulted}
 use Rattle.desk_types.specs.declared.refusal.Refusal.{Refusal}
-use Rattle.desk_types.specs.Changes.{raises_edition}
+use Rattle.desk_types.specs.declared.tables.Change.{Change}
+use Rattle.desk_types.specs.Changes.{changes, raises_edition}
 use Rattle.desk_types.specs.Judged.{judged}
 use Rattle.desk_types.specs.Run.{after, run}
 use Rattle.desk_types.specs.State.{State}
 use Rattle.desk_types.specs.Step.{accepted, answered, at_moment, next_edition, step}
+use Rattle.desk_types.specs.Tables.{put_all}
 
 next_low : (rises : Bool) (edition : ℕ) → next_edition rises edition ≤ edition + 1
 next_low true edition = omega arith
@@ -30,3 +32,11 @@ pub edition_reached : (S : State) (entries : List Entry) → (run S entries).edi
 unfolding run
 edition_reached S [] = omega arith
 edition_reached S (e ∷ entries) = omega (arith, edition_after S e.moment e.call e.outcome, edition_reached (after S e.moment e.call e.outcome) entries)
+
+-- the state where the changes of an accepted call are put, and the edition raised where it rises
+pub accepted_is : (S T left : State) (call : Call) (list : List Change) (rises : Bool) → T ≡ record S { tables = put_all S.tables list } → list ≡ changes S call → rises ≡ raises_edition S call
+    → left ≡ record T { edition = next_edition rises T.edition } → left ≡ accepted S call
+unfolding accepted
+accepted_is S T left call list rises put planned raised is =
+    is ∙ ap (λ (U : State). record U { edition = next_edition rises U.edition }) put
+    ∙ (λ i. record S { edition = next_edition (raised i) S.edition; tables = put_all S.tables (planned i) })

@@ -27,6 +27,11 @@ has_room-left before after count rest (PutPlacement p) left h = omega (arith, le
 has_room-left before after count rest (PutBatch b) left h = omega (arith, left.batches, h)
 has_room-left before after count rest (PutFate number fate) left h = tt
 
+pub has_room-kept : (before after : Spare) (count : ℕ) (change : Change) → HasLeft 0 before after → HasRoomFor before count change → HasRoomFor after count change
+has_room-kept before after count change left h =
+    let same : count ≡ 0 + count = omega arith in
+    has_room-left before after 0 count change left (subst (λ n. HasRoomFor before n change) same h)
+
 -- room for more is room for fewer
 pub has_room-fewer : (spare : Spare) (few many : ℕ) (change : Change) → few ≤ many → HasRoomFor spare many change → HasRoomFor spare few change
 has_room-fewer spare few many (PutAccount a) low h = omega (arith, low, h)
@@ -53,21 +58,21 @@ left_trans first between last h k = record {
 }
 
 -- room is made for the changes up to an index, and what was there stays
-pub record IsMade (before after : LedgerValue) (changes : List Change) (index : ℕ) : Type 0 where
+pub record IsMade (before after : LedgerValue) (list : List Change) (index : ℕ) : Type 0 where
   pub state : after.state ≡ before.state
-  pub room : All (HasRoomFor after.spare (length changes)) (take index changes)
+  pub room : All (HasRoomFor after.spare (length list)) (take index list)
   pub left : HasLeft 0 before.spare after.spare
 
-pub made_none : (before : LedgerValue) (changes : List Change) → IsMade before before changes 0
-made_none before changes = record { state = refl; room = All-nil (HasRoomFor before.spare (length changes)); left = left_same before.spare }
+pub made_none : (before : LedgerValue) (list : List Change) → IsMade before before list 0
+made_none before list = record { state = refl; room = All-nil (HasRoomFor before.spare (length list)); left = left_same before.spare }
 
-pub made_more : (before between after : LedgerValue) (changes : List Change) (index : ℕ) (change : Change) → index + 1 ≤ length changes → change ≡ get_or changes index change → IsMade before between changes index
-    → after.state ≡ between.state → HasLeft 0 between.spare after.spare → HasRoomFor after.spare (length changes) change → IsMade before after changes (index + 1)
-made_more before between after changes index change low at h same left room = record {
+pub made_more : (before between after : LedgerValue) (list : List Change) (index : ℕ) (change : Change) → index + 1 ≤ length list → change ≡ get_or list index change → IsMade before between list index
+    → after.state ≡ between.state → HasLeft 0 between.spare after.spare → HasRoomFor after.spare (length list) change → IsMade before after list (index + 1)
+made_more before between after list index change low at h same left room = record {
   state = same ∙ h.state;
-  room = All-more (HasRoomFor after.spare (length changes)) changes index change (omega (arith, low))
-      (All-weaker (HasRoomFor between.spare (length changes)) (HasRoomFor after.spare (length changes)) (λ c k. has_room-left between.spare after.spare 0 (length changes) c left k) (take index changes) h.room)
-      (subst (HasRoomFor after.spare (length changes)) at room);
+  room = All-more (HasRoomFor after.spare (length list)) list index change (omega (arith, low))
+      (All-weaker (HasRoomFor between.spare (length list)) (HasRoomFor after.spare (length list)) (λ c k. has_room-kept between.spare after.spare (length list) c left k) (take index list) h.room)
+      (subst (HasRoomFor after.spare (length list)) at room);
   left = left_trans before.spare between.spare after.spare h.left left;
 }
 
@@ -76,6 +81,10 @@ pub record ArePut (before after : LedgerValue) (done rest : List Change) : Type 
   pub state : after.state ≡ record before.state { tables = put_all before.state.tables done }
   pub in_order : StandInOrder after.state.tables
   pub room : HasRoom after.spare rest
+
+pub put_none : (before : LedgerValue) (rest : List Change) → StandInOrder before.state.tables → HasRoom before.spare rest → ArePut before before [] rest
+unfolding put_all
+put_none before rest order room = record { state = refl; in_order = order; room = room }
 
 put_all-push : (T : Tables) (done : List Change) (change : Change) → put_all T (done ++ change ∷ []) ≡ put (put_all T done) change
 unfolding put_all

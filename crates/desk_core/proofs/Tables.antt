@@ -1,5 +1,5 @@
 -- Tables of refusals that are joined, and rows of a table.
-use Rattle.std.proofs.Common.{◌≡◌, Bool, true, false, Option, None, Some, List, [], ◌∷◌, ◌++◌, refl}
+use Rattle.std.proofs.Common.{◌≡◌, Bool, true, false, Option, None, Some, List, [], ◌∷◌, ◌++◌, refl, sym, subst}
 use Rattle.desk_types.specs.declared.refusal.Refusal.{Refusal}
 use Rattle.desk_types.specs.Judged.{first, when}
 use Rattle.desk_core.specs.declared.stop.Stop.{Stop}
@@ -34,3 +34,11 @@ first_holds false refused later h = absurd cc
 pub first_fails : (test : Bool) (refused : Refusal) (later : List (Option Refusal)) → test ≡ false → first (when test refused ∷ later) ≡ first later
 first_fails true refused later h = absurd cc
 first_fails false refused later h = refl
+
+pub row_stops : (test : Bool) (refused : Refusal) (later : List (Option Refusal)) (stop : Stop) → test ≡ true → stop ≡ Refused refused → IsFirst (when test refused ∷ later) stop
+row_stops test refused later stop holds is = subst (IsFirst (when test refused ∷ later)) (sym is) (first_holds test refused later holds)
+
+pub row_passes : (test : Bool) (refused : Refusal) (later : List (Option Refusal)) (stop : Stop) → test ≡ false → IsFirst later stop → IsFirst (when test refused ∷ later) stop
+row_passes true refused later stop fails h = absurd cc
+row_passes false refused later NoMemory fails h = tt
+row_passes false refused later (Refused other) fails h = h

@@ -20,14 +20,8 @@ impl Ledger {
         ensures passed { OnOk result (first (owner_rows self.now.state.tables account key.now) ≡ None) }
         ensures stopped { IfErr result (IsFirst (owner_rows self.now.state.tables account key.now)) }
     {
-        when(
-            lacks_account(&self.accounts, account),
-            Refusal::NoAccount,
-        )?;
-        when(
-            !fits_key(&self.accounts, account, key),
-            Refusal::BadKey,
-        )?;
+        when(lacks_account(&self.accounts, account), Refusal::NoAccount)?;
+        when(!fits_key(&self.accounts, account, key), Refusal::BadKey)?;
         Ok(())
     }
 
@@ -49,10 +43,7 @@ impl Ledger {
         ensures planned { IfOk result (IsPlanned self.now.state (Call.AddAccount key.now)) }
         ensures stopped { IfErr result (IsStop self.now.state (Call.AddAccount key.now)) }
     {
-        when(
-            !is_key(key.as_str()),
-            Refusal::BadField(Field::Key),
-        )?;
+        when(!is_key(key.as_str()), Refusal::BadField(Field::Key))?;
         when(
             self.accounts.len() as u64 >= ACCOUNTS_MAX,
             Refusal::AccountsFull,
@@ -63,20 +54,12 @@ impl Ledger {
             key: key.twin()?,
             suspended: false,
         };
-        Ok(Plan::one(
-            Change::PutAccount(account),
-            Reply::Made(number),
-        ))
+        Ok(Plan::one(Change::PutAccount(account), Reply::Made(number)))
     }
 
     /// Plans a campaign, which is on from the start, with the budget of its first day.
     #[tactic(auto, unfolding(desk_types::specs::Judged::refusals, desk_types::specs::Changes::changes, desk_types::specs::Changes::reply))]
-    pub(crate) fn plan_campaign(
-        &self,
-        account: u64,
-        key: &Text,
-        budget: u64,
-    ) -> Result<Plan, Stop>
+    pub(crate) fn plan_campaign(&self, account: u64, key: &Text, budget: u64) -> Result<Plan, Stop>
         ensures planned { IfOk result (IsPlanned self.now.state (Call.AddCampaign account key.now budget)) }
         ensures stopped { IfErr result (IsStop self.now.state (Call.AddCampaign account key.now budget)) }
     {

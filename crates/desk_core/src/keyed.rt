@@ -1,6 +1,7 @@
 //! Rows that stand in the order of their keys.
 
-ghost use Rattle.std.specs.Prelude.{◌≡◌, ◌<◌, ◌≤◌, ◌+◌, ◌∷◌, [], ℕ, false, List};
+ghost use Rattle.std.specs.Prelude.{◌≡◌, ◌<◌, ◌≤◌, ◌+◌, ◌∷◌, [], ℕ, true, false, List, length};
+ghost use Rattle.std.specs.List.Sorted.{IsPartitionPoint};
 ghost use Rattle.std.specs.Vec.{vec_capacity, vec_len};
 ghost use Rattle.desk_types.specs.Keys.{account_key, batch_key, budget_key, campaign_key, is_less_key, line_key, negative_key, placement_key};
 ghost use Rattle.desk_types.specs.Sound.{AreInOrder};
@@ -26,7 +27,7 @@ pub(crate) fn put<R: Keyed>(rows: &mut Vec<R>, row: R)
     ensures capacity { vec_capacity rows.old ≤ vec_capacity rows.new }
     ensures length { vec_len rows.new ≤ vec_len rows.old + 1 }
 {
-    let place = rows.partition_point(|other| other.is_before(&row));
+    let place = place_of(rows, &row);
     if place < rows.len() && !row.is_before(&rows[place]) {
         rows[place] = row;
         return;
@@ -34,6 +35,16 @@ pub(crate) fn put<R: Keyed>(rows: &mut Vec<R>, row: R)
     let Ok(()) = rows.insert(place, row) else {
         unreachable!()
     };
+}
+
+/// The place of a row's key: how many rows have lesser ones.
+fn place_of<R: Keyed>(rows: &[R], row: &R) -> usize
+    requires { AreInOrder R.key rows.now }
+    ensures within { result ≤ length rows.now }
+    ensures place { IsPartitionPoint (λ r. is_less_key (R.key r) (R.key row.now) ≡ true)
+        (λ r. is_less_key (R.key r) (R.key row.now) ≡ false) rows.now result }
+{
+    rows.partition_point(|other| other.is_before(row))
 }
 
 /// Whether a row with these two numbers as its key stands before one with those.
@@ -65,7 +76,12 @@ impl Keyed for BudgetSet {
     fn is_before(&self, other: &Self) -> bool {
         self.account < other.account
             || (self.account == other.account
-                && is_pair_before(self.campaign, day_of(self.at), other.campaign, day_of(other.at)))
+                && is_pair_before(
+                    self.campaign,
+                    day_of(self.at),
+                    other.campaign,
+                    day_of(other.at),
+                ))
     }
 }
 

@@ -10,9 +10,7 @@ ghost use Rattle.desk_core.specs.Planned.{IsPlanned, IsStop};
 use crate::plan::Plan;
 use crate::stop::Stop;
 use desk_types::limits::MOMENT_MAX;
-use desk_types::{
-    Account, Batch, BudgetSet, Call, Campaign, Line, Negative, Placement, Settings,
-};
+use desk_types::{Account, Batch, BudgetSet, Call, Campaign, Line, Negative, Placement, Settings};
 use std::alloc::Global;
 use std::marker::Model;
 
@@ -40,29 +38,29 @@ impl Model for Ledger {
     ghost Value = { LedgerValue };
 
     ghost view = { λ l. record {
-        state = record {
-            settings = l.settings;
-            moment = l.moment;
-            edition = l.edition;
-            tables = record {
-                accounts = l.accounts.items;
-                campaigns = l.campaigns.items;
-                budgets = l.budgets.items;
-                lines = l.lines.items;
-                negatives = l.negatives.items;
-                placements = l.placements.items;
-                batches = l.batches.items;
-            };
+      state = record {
+        settings = l.settings;
+        moment = l.moment;
+        edition = l.edition;
+        tables = record {
+          accounts = l.accounts.items;
+          campaigns = l.campaigns.items;
+          budgets = l.budgets.items;
+          lines = l.lines.items;
+          negatives = l.negatives.items;
+          placements = l.placements.items;
+          batches = l.batches.items;
         };
-        spare = record {
-            accounts = vec_capacity l.accounts - vec_len l.accounts;
-            campaigns = vec_capacity l.campaigns - vec_len l.campaigns;
-            budgets = vec_capacity l.budgets - vec_len l.budgets;
-            lines = vec_capacity l.lines - vec_len l.lines;
-            negatives = vec_capacity l.negatives - vec_len l.negatives;
-            placements = vec_capacity l.placements - vec_len l.placements;
-            batches = vec_capacity l.batches - vec_len l.batches;
-        };
+      };
+      spare = record {
+        accounts = vec_capacity l.accounts - vec_len l.accounts;
+        campaigns = vec_capacity l.campaigns - vec_len l.campaigns;
+        budgets = vec_capacity l.budgets - vec_len l.budgets;
+        lines = vec_capacity l.lines - vec_len l.lines;
+        negatives = vec_capacity l.negatives - vec_len l.negatives;
+        placements = vec_capacity l.placements - vec_len l.placements;
+        batches = vec_capacity l.batches - vec_len l.batches;
+      };
     } };
 }
 

@@ -36,10 +36,7 @@ impl Ledger {
         self.judge_owner(account, key)?;
         let line = self.line_made(account, campaign, bid, pattern, headline, link)?;
         let number = line.number;
-        Ok(Plan::one(
-            Change::PutLine(line),
-            Reply::Made(number),
-        ))
+        Ok(Plan::one(Change::PutLine(line), Reply::Made(number)))
     }
 
     /// The row of a line that an account asks for, or why it is refused.

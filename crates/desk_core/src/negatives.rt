@@ -20,12 +20,7 @@ use query_words::{NoMemory, Text, Twin};
 impl Ledger {
     /// Plans the dropping of a negative.
     #[tactic(auto, unfolding(desk_types::specs::Judged::refusals, desk_types::specs::Changes::changes, desk_types::specs::Changes::reply))]
-    pub(crate) fn plan_drop(
-        &self,
-        account: u64,
-        key: &Text,
-        negative: u64,
-    ) -> Result<Plan, Stop>
+    pub(crate) fn plan_drop(&self, account: u64, key: &Text, negative: u64) -> Result<Plan, Stop>
         ensures planned { IfOk result (IsPlanned self.now.state (Call.DropNegative account key.now negative)) }
         ensures stopped { IfErr result (IsStop self.now.state (Call.DropNegative account key.now negative)) }
     {
@@ -54,7 +49,9 @@ impl Ledger {
     fn negative_of(&self, account: u64, negative: u64) -> Option<&Negative>
         ensures { option_copied result ≡ negative_of self.now.state.tables account negative }
     {
-        self.negatives.iter().find(|row| row.account == account && row.number == negative)
+        self.negatives
+            .iter()
+            .find(|row| row.account == account && row.number == negative)
     }
 
     /// Plans a negative: a new one, or the dropped one of the same pattern lives again.
@@ -73,10 +70,7 @@ impl Ledger {
         self.judge_campaign(account, campaign)?;
         let negative = self.negative_made(account, campaign, pattern)?;
         let number = negative.number;
-        Ok(Plan::one(
-            Change::PutNegative(negative),
-            Reply::Made(number),
-        ))
+        Ok(Plan::one(Change::PutNegative(negative), Reply::Made(number)))
     }
 
     /// The row of a negative that an account asks for in a campaign that is there, or why it is refused.
@@ -105,9 +99,7 @@ impl Ledger {
             (find (is_live_like account campaign pattern.now) self.now.state.tables.negatives) ∷ [])) }
     {
         match live_negative(&self.negatives, account, campaign, pattern) {
-            Some(there) => Err(Stop::Refused(Refusal::NegativeThere(
-                there.number,
-            ))),
+            Some(there) => Err(Stop::Refused(Refusal::NegativeThere(there.number))),
             None => Ok(()),
         }
     }

@@ -1,6 +1,6 @@
 //! The putting of changes into the rows.
 
-ghost use Rattle.std.specs.Prelude.{◌≡◌, ◌<◌, ◌≤◌, ◌-◌, ◌^◌, ℕ, length, All, IsOk, OnOk};
+ghost use Rattle.std.specs.Prelude.{◌≡◌, ◌<◌, ◌≤◌, ◌+◌, ◌-◌, ◌^◌, ℕ, length, All, IsOk, OnOk};
 ghost use Rattle.desk_types.specs.Changes.{changes as changes_of, raises_edition};
 ghost use Rattle.desk_types.specs.State.{State};
 ghost use Rattle.desk_types.specs.Sound.{StandInOrder};
@@ -57,17 +57,35 @@ impl Ledger {
         requires edition { self.old.state.edition < 2 ^ 64 - 1 }
         ensures { self.new.state ≡ accepted self.old.state call.now }
     {
+        self.put_changes(changes);
+        if raises_edition(call) {
+            self.raise_edition();
+        }
+    }
+
+    /// Raises the edition by one.
+    fn raise_edition(&mut self)
+        requires { self.old.state.edition < 2 ^ 64 - 1 }
+        ensures { self.new.state ≡ record self.old.state { edition = self.old.state.edition + 1 } }
+    {
+        self.edition += 1;
+    }
+
+    /// Puts changes, in order.
+    #[tactic(auto, unfolding(desk_types::specs::Tables::put_all))]
+    fn put_changes(&mut self, changes: Changes)
+        requires in_order { StandInOrder self.old.state.tables }
+        requires room { HasRoom self.old.spare (listed changes) }
+        ensures { self.new.state ≡ record self.old.state { tables = put_all self.old.state.tables (listed changes) } }
+    {
         match changes {
             Changes::Nothing => {}
             Changes::One(change) => self.put(change),
             Changes::Several(list) => self.put_all(list),
         }
-        if raises_edition(call) {
-            self.edition += 1;
-        }
     }
 
-    /// Puts changes, in order.
+    /// Puts the changes of a list, in order.
     fn put_all(&mut self, changes: List<Change>)
         requires in_order { StandInOrder self.old.state.tables }
         requires room { HasRoom self.old.spare changes }

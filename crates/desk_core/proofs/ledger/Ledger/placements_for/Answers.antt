@@ -6,6 +6,7 @@ use Rattle.query_words.specs.Words.{words_of}
 use Rattle.desk_types.specs.Eligible.{entrants_for}
 use Rattle.desk_types.specs.Judged.{page_of, places_of}
 use Rattle.desk_types.specs.State.{State}
+use Rattle.desk_types.proofs.SecondPrice.{lines_in_range}
 use Rattle.desk_types.specs.Changes.{all_placed}
 use Rattle.rank_core.specs.Ranked.{ranked}
 use Rattle.rank_core.specs.declared.page.Ranked.{Ranked}
@@ -43,7 +44,7 @@ returns-then-not-has_room-clause-stopped c =
 
 pub placed-requires-clause-priced : goal.placed-requires-clause-priced
 placed-requires-clause-priced c =
-    All-same (CanBePriced c.args.self.now.state) _ _ (c.as_slice.ensures.value ∙ c.in_ok-page.ensures) (ranked-priced c.args.self.now.state c.in_ok-query.query c.in-Some.count c.requires.sound.in_range)
+    All-same (CanBePriced c.args.self.now.state) _ _ (c.as_slice.ensures.value ∙ c.in_ok-page.ensures) (ranked-priced c.args.self.now.state c.in_ok-query.query c.in-Some.count (lines_in_range c.args.self.now.state c.requires.sound))
 
 pub returns-clause-not_refused : goal.returns-clause-not_refused
 returns-clause-not_refused c =
@@ -61,10 +62,10 @@ returns-clause-placements c =
     let count = places_of S c.args.places in
     let is : c.as_slice.result.now ≡ ranked entered count
     = c.as_slice.ensures.value ∙ page_is S text c.in_ok-query.query c.args.places c.in-Some.count c.in_ok-page.page.items c.in_ok-query.ensures.words c.in-Some.ensures.value c.in_ok-page.ensures in
-    c.in_ok-placed.ensures entered (subst (AreRankedFrom entered) (sym is) (ranked-from S (words_of text) count c.requires.sound.in_range))
+    c.in_ok-placed.ensures entered (subst (AreRankedFrom entered) (sym is) (ranked-from S (words_of text) count (lines_in_range c.args.self.now.state c.requires.sound)))
     ∙ ap (all_placed S entered (length S.tables.placements + 1)) (ap ads_of is ∙ ads_of-ranked entered count)
 
 pub returns-clause-lines : goal.returns-clause-lines
 returns-clause-lines c =
     let S = c.args.self.now.state in
-    All-same (HasLine S.tables) _ _ (returns-clause-placements c) (placed-lines S (words_of c.args.text.now) (length S.tables.placements + 1) (places_of S c.args.places) c.requires.sound.in_range)
+    All-same (HasLine S.tables) _ _ (returns-clause-placements c) (placed-lines S (words_of c.args.text.now) (length S.tables.placements + 1) (places_of S c.args.places) (lines_in_range c.args.self.now.state c.requires.sound))

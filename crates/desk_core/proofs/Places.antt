@@ -1,6 +1,8 @@
--- A row that is put at the place of its key.
+-- The place of a key, and a row that is put there.
 use Rattle.std.proofs.Common.{◌≡◌, ℕ, zero, suc, ◌+◌, ◌<◌, ◌≤◌, Bool, true, false, ◌||◌, ◌⊎◌, inl, inr, List, [], ◌∷◌, ◌++◌, length, get_or, set, take, drop, refl, sym, ap, subst, ◌∙◌, arith}
-use Rattle.std.specs.List.{All, insert}
+use Rattle.std.specs.List.{insert}
+use Rattle.std.specs.List.Sorted.{IsPartitionPoint}
+use Rattle.std.proofs.lemmas.List.{get_or_default}
 use Rattle.std.proofs.lemmas.Bool.{cases_Bool, cond-true, cond-false, both_ways, false_from_ne_true}
 use Rattle.desk_types.specs.Keys.{is_less_key, is_same_key}
 use Rattle.desk_types.specs.Sound.{AreInOrder}
@@ -13,6 +15,14 @@ use Rattle.desk_types.proofs.Puts.{Ordered, less-irreflexive, less-trans, less-t
 pub record IsPlace {A : Type 0} (key : A → List ℕ) (wanted : List ℕ) (rows : List A) (place : ℕ) : Type 0 where
   pub before : (k : ℕ) (d : A) → k < place → is_less_key (key (get_or rows k d)) wanted ≡ true
   pub from : (k : ℕ) (d : A) → place ≤ k → k < length rows → is_less_key (key (get_or rows k d)) wanted ≡ false
+
+-- the place that a search by halving finds
+pub place_from : {A : Type 0} (key : A → List ℕ) (wanted : List ℕ) (rows : List A) (place : ℕ)
+    → IsPartitionPoint (λ (r : A). is_less_key (key r) wanted ≡ true) (λ (r : A). is_less_key (key r) wanted ≡ false) rows place → IsPlace key wanted rows place
+place_from key wanted rows place h = record {
+  before = λ k d low. h.0 k d (omega arith) low;
+  from = λ k d low high. h.1 k d low high;
+}
 
 place_behind : {A : Type 0} (key : A → List ℕ) (wanted : List ℕ) (r : A) (rows : List A) (place : ℕ) → IsPlace key wanted (r ∷ rows) (suc place) → IsPlace key wanted rows place
 place_behind key wanted r rows place h = record {
@@ -59,6 +69,12 @@ put-replaces key row rows place d h low same = put_there key row rows (has_at ke
 -- the row at the place has a greater key, if there is one
 abbrev pub IsBehind : {A : Type 0} → (A → List ℕ) → A → List A → ℕ → Type 0
 IsBehind {A} key row rows place = (d : A) → place < length rows → is_less_key (key row) (key (get_or rows place d)) ≡ true
+
+pub behind_from : {A : Type 0} (key : A → List ℕ) (row : A) (rows : List A) (place : ℕ) (r : A) → r ≡ get_or rows place r → is_less_key (key row) (key r) ≡ true → IsBehind key row rows place
+behind_from key row rows place r at less = λ d low. subst (λ s. is_less_key (key row) (key s) ≡ true) (at ∙ get_or_default rows place r d low) less
+
+pub behind_last : {A : Type 0} (key : A → List ℕ) (row : A) (rows : List A) (place : ℕ) → length rows ≤ place → IsBehind key row rows place
+behind_last key row rows place high = λ d low. absurd (omega (arith, low))
 
 -- no row behind a greater key has the key
 none_behind : {A : Type 0} (key : A → List ℕ) (row r : A) (rows : List A) → is_less_key (key row) (key r) ≡ true → Each (λ s. is_less_key (key r) (key s) ≡ true) rows → has_key key (key row) rows ≡ false

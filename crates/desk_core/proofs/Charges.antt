@@ -1,4 +1,4 @@
--- What is spent or held is the sum of the prices that count.
+-- What is spent or escrowed is the sum of the prices that count.
 use Rattle.std.proofs.Common.{◌≡◌, ℕ, ◌+◌, Bool, true, false, ◌&&◌, ◌||◌, cond, inl, inr, List, [], ◌∷◌, refl, sym, ap, ◌∙◌, arith}
 use Rattle.std.specs.Prelude.{nat_lt}
 use Rattle.std.specs.List.{filter, sum_by}
@@ -7,13 +7,12 @@ use Rattle.std.proofs.lemmas.List.Sums.{sum_by-cons}
 use Rattle.desk_types.specs.declared.rows.Fate.{Fate}
 use Rattle.desk_types.specs.declared.rows.Fate.TheVariants.{Open, Settled, Credited}
 use Rattle.desk_types.specs.declared.rows.Placement.{Placement}
-use Rattle.desk_types.specs.Money.{is_open, is_paid, is_shown_on, used}
+use Rattle.desk_types.specs.Money.{escrowed, is_escrowed, is_open, is_shown_on, is_spent, spent, used}
 use Rattle.desk_types.specs.State.{State}
-use Rattle.desk_types.proofs.Costs.{cost, used-costs}
 use Rattle.desk_core.specs.Charges.{is_charged}
 
--- a placement is not both paid and held
-cost_once : (shown before : Bool) (fate : Fate) (price : ℕ) → cond (shown && is_paid fate) price 0 + cond (shown && (is_open fate && before)) price 0 ≡ cond (shown && (is_paid fate || (is_open fate && before))) price 0
+-- a price is not both spent and escrowed
+cost_once : (shown before : Bool) (fate : Fate) (price : ℕ) → cond (shown && is_spent fate) price 0 + cond (shown && (is_open fate && before)) price 0 ≡ cond (shown && (is_spent fate || (is_open fate && before))) price 0
 cost_once true true Open price = omega arith
 cost_once true false Open price = omega arith
 cost_once false before Open price = refl
@@ -30,16 +29,20 @@ sum_filter-cons p f x xs =
       | inr t ↦ ap (sum_by f) (cond-false (p x) (x ∷ filter p xs) (filter p xs) t) ∙ omega (arith, cond-false {A = ℕ} (p x) (f x) 0 t)
     ]
 
-sum_charged : (account campaign day moment : ℕ) (ps : List Placement) → sum_by (λ p. p.price) (filter (is_charged account campaign day moment) ps) ≡ sum_by (cost account campaign day moment) ps
+sum_charged : (account campaign day moment : ℕ) (ps : List Placement)
+    → sum_by (λ p. p.price) (filter (λ p. is_shown_on account campaign day p && is_spent p.fate) ps) + sum_by (λ p. p.price) (filter (λ p. is_shown_on account campaign day p && is_escrowed moment p) ps)
+    ≡ sum_by (λ p. p.price) (filter (is_charged account campaign day moment) ps)
 sum_charged account campaign day moment [] = refl
 sum_charged account campaign day moment (p ∷ ps) =
     omega (
       arith,
+      sum_filter-cons (λ (q : Placement). is_shown_on account campaign day q && is_spent q.fate) (λ (q : Placement). q.price) p ps,
+      sum_filter-cons (λ (q : Placement). is_shown_on account campaign day q && is_escrowed moment q) (λ (q : Placement). q.price) p ps,
       sum_filter-cons (is_charged account campaign day moment) (λ (q : Placement). q.price) p ps,
-      sum_by-cons (cost account campaign day moment) p ps,
       cost_once (is_shown_on account campaign day p) (nat_lt moment p.deadline) p.fate p.price,
       sum_charged account campaign day moment ps,
     )
 
-pub used-charged : (S : State) (account campaign day : ℕ) → used S account campaign day ≡ sum_by (λ p. p.price) (filter (is_charged account campaign day S.moment) S.placements)
-used-charged S account campaign day = used-costs S account campaign day ∙ sym (sum_charged account campaign day S.moment S.placements)
+pub used-charged : (S : State) (account campaign day : ℕ) → used S account campaign day ≡ sum_by (λ p. p.price) (filter (is_charged account campaign day S.moment) S.tables.placements)
+unfolding spent escrowed
+used-charged S account campaign day = sum_charged account campaign day S.moment S.tables.placements

@@ -1,5 +1,5 @@
 -- A desk without calls, and a desk after a further call.
-use Rattle.std.proofs.Common.{◌≡◌, ℕ, ◌+◌, ◌≤◌, List, [], ◌∷◌, ◌++◌, length, false, Ok, sym, ap, ◌∙◌, refl, subst}
+use Rattle.std.proofs.Common.{◌≡◌, ℕ, ◌+◌, ◌≤◌, List, [], ◌∷◌, ◌++◌, length, false, Ok, sym, ap, ◌∙◌, refl, subst, arith}
 use Rattle.std.proofs.lemmas.List.Elements.{All-nil, All-push}
 use Rattle.desk_types.specs.declared.call.Call.{Call}
 use Rattle.desk_types.specs.declared.entry.Entry.{Entry}
@@ -9,14 +9,16 @@ use Rattle.desk_types.specs.Journal.{IsLegal, entries_of, is_full}
 use Rattle.desk_types.specs.Run.{run}
 use Rattle.desk_types.specs.Serving.{HasNoFault, with_entry}
 use Rattle.desk_types.specs.SettingsValue.{SettingsValue}
+use Rattle.desk_types.specs.Sound.{IsSound}
 use Rattle.desk_types.specs.State.{State, empty}
 use Rattle.desk_types.specs.Step.{step}
 use Rattle.desk_types.proofs.Editions.{run-append}
 use Rattle.desk_types.proofs.Legality.{legal_answer, legal_empty}
+use Rattle.desk_types.proofs.Histories.{sound_run}
+use Rattle.desk_types.proofs.Sound.{sound_empty}
 use Rattle.desk_core.specs.DeskValue.{Answers, IsReached}
 use Rattle.desk_core.specs.JournalValue.{JournalValue}
-use Rattle.desk_core.specs.Sound.{IsSound}
-use Rattle.desk_core.proofs.Reached.{edition_reached, sound_reached}
+use Rattle.desk_core.proofs.Reached.{edition_reached}
 
 pub reached_first : (settings : SettingsValue) (rows : State) (journal : JournalValue) → rows ≡ empty settings → journal.settings ≡ settings → journal.entries ≡ [] → IsReached rows journal
 unfolding run
@@ -30,10 +32,10 @@ reached_first settings rows journal are same none =
 
 -- what a desk needs of its rows
 pub sound_rows : (rows : State) (journal : JournalValue) → IsReached rows journal → IsSound rows
-sound_rows rows journal h = subst IsSound (sym h.run_of_journal) (sound_reached journal.settings journal.entries)
+sound_rows rows journal h = subst IsSound (sym h.run_of_journal) (sound_run (empty journal.settings) journal.entries (sound_empty journal.settings))
 
 pub edition_of_rows : (rows : State) (journal : JournalValue) → IsReached rows journal → rows.edition ≤ length journal.entries
-edition_of_rows rows journal h = subst (λ (S : State). S.edition ≤ length journal.entries) (sym h.run_of_journal) (edition_reached journal.settings journal.entries)
+edition_of_rows rows journal h = subst (λ (S : State). S.edition ≤ length journal.entries) (sym h.run_of_journal) (omega (arith, edition_reached (empty journal.settings) journal.entries))
 
 -- the run with a further answer is a step further
 pub run_more : (S : State) (caller : ℕ) (entries : List Entry) (moment : ℕ) (call : Call) → run S (with_entry caller entries moment call Answered) ≡ (step (run S entries) moment call).state
@@ -64,3 +66,11 @@ answers_ok rows left before after caller moment call reply h room replied steppe
       legal = subst (λ s. IsLegal s after.entries) same later.legal;
       no_fault = later.no_fault;
     }
+
+-- rows and a journal that are as they were, whatever room there is
+pub reached_same : (rows left : State) (before after : JournalValue) → IsReached rows before → left ≡ rows → after.settings ≡ before.settings → after.entries ≡ before.entries → IsReached left after
+reached_same rows left before after h are same none = record {
+  run_of_journal = are ∙ h.run_of_journal ∙ (λ i. run (empty (sym same i)) (sym none i));
+  legal = subst (λ s. IsLegal s after.entries) (sym same) (subst (λ es. IsLegal before.settings es) (sym none) h.legal);
+  no_fault = subst HasNoFault (sym none) h.no_fault;
+}

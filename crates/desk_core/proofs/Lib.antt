@@ -2,12 +2,12 @@ pub mod Charges
 pub mod Desks
 pub mod FindLemmas
 pub mod Journals
-pub mod LineLemmas
 pub mod Moments
-pub mod NegativeLemmas
 pub mod Numbers
 pub mod Pages
 pub mod Placing
 pub mod Reached
 pub mod Searching
 pub mod Tables
+pub mod Places
+pub mod Rooms

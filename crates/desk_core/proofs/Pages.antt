@@ -5,31 +5,22 @@ use Rattle.std.specs.Option.{IfSome}
 use Rattle.std.proofs.lemmas.Bool.{cases_Bool, cond-true, cond-false, and_from, eq-eqb}
 use Rattle.std.proofs.lemmas.List.{length-map}
 use Rattle.std.proofs.lemmas.List.Elements.{All-nil, All-cons, All-head, All-tail, All-append, All-map, Contains-get_or}
-use Rattle.query_words.specs.Words.{words_of}
-use Rattle.desk_types.specs.declared.call.Call.TheVariants.{Search}
 use Rattle.desk_types.specs.declared.rows.Line.{Line}
 use Rattle.desk_types.specs.AdValue.{AdValue, IsInRange}
 use Rattle.desk_types.specs.Eligible.{ad_of, eligible_ads, entrants_for, is_eligible}
-use Rattle.desk_types.specs.Judged.{places_of}
 use Rattle.desk_types.specs.Laws.{AreFirstPlaces}
 use Rattle.desk_types.specs.Page.{next_below, page}
-use Rattle.desk_types.specs.State.{State, line_of}
-use Rattle.desk_types.specs.Step.{accepted, all_placed}
+use Rattle.desk_types.specs.Changes.{all_placed}
+use Rattle.desk_types.specs.State.{State}
+use Rattle.desk_types.specs.Tables.{line_of}
 use Rattle.desk_types.proofs.Accounts.{AreOfDifferentAccounts-from}
-use Rattle.desk_types.proofs.EachRow.{Each}
-use Rattle.desk_types.proofs.Entrants.{entrant_of}
-use Rattle.desk_types.proofs.FairPages.{apart_entrants, fit_entrant, page_among}
+use Rattle.desk_types.proofs.SecondPrice.{LinesInRange, apart_entrants, entrant_line, fit_entrant, page_among}
 use Rattle.desk_types.proofs.Members.{Has, Has-from_Contains}
 use Rattle.desk_types.proofs.Pages.{next_below-law, page-first_places}
 use Rattle.rank_core.specs.declared.page.Ranked.{Ranked}
 use Rattle.rank_core.specs.Ranked.{ranked}
-use Rattle.desk_core.specs.Shown.{AreRankedFrom, CanBePriced}
-use Rattle.desk_core.specs.Sound.{HasLine, IsSound}
+use Rattle.desk_core.specs.Shown.{AreRankedFrom, CanBePriced, HasLine}
 use Rattle.desk_core.proofs.Placing.{ads_of}
-
-Each-from_All : {A : Type 0} (P : A → Type 0) (xs : List A) → All P xs → Each P xs
-Each-from_All P [] h = tt
-Each-from_All P (x ∷ xs) h = (All-head P x xs h, Each-from_All P xs (All-tail P x xs h))
 
 -- an entrant with the one next below it
 abbrev with_next : List AdValue → AdValue → Ranked
@@ -54,11 +45,11 @@ slice_get-with_next entered (a ∷ ads) (suc k) r low = slice_get-with_next ente
 members : (entered ads : List AdValue) (n : ℕ) → AreFirstPlaces entered n ads → All (Contains entered) ads
 members entered ads n h = λ k d low. h.among_entrants (get_or ads k d) (Contains-get_or ads k d low)
 
-pub ranked-from : (S : State) (query : List (List ℕ)) (n : ℕ) → All (λ (l : Line). IsInRange (ad_of l)) S.lines → AreRankedFrom (entrants_for S query) (ranked (entrants_for S query) n)
+pub ranked-from : (S : State) (query : List (List ℕ)) (n : ℕ) → LinesInRange S → AreRankedFrom (entrants_for S query) (ranked (entrants_for S query) n)
 unfolding ranked
 ranked-from S query n in_range =
     let entered = entrants_for S query in
-    let apart = AreOfDifferentAccounts-from entered (apart_entrants S query (Each-from_All (λ (l : Line). IsInRange (ad_of l)) S.lines in_range)) in
+    let apart = AreOfDifferentAccounts-from entered (apart_entrants S query in_range) in
     let first = page-first_places entered n apart in
     let ads = page entered n in
     record {
@@ -72,62 +63,30 @@ if_some : (o : Option AdValue) (P Q : AdValue → Type 0) → ((a : AdValue) →
 if_some None P Q f h = tt
 if_some (Some a) P Q f h = f a h
 
-pub ranked-priced : (S : State) (query : List (List ℕ)) (n : ℕ) → All (λ (l : Line). IsInRange (ad_of l)) S.lines → All (CanBePriced S) (ranked (entrants_for S query) n)
+pub ranked-priced : (S : State) (query : List (List ℕ)) (n : ℕ) → LinesInRange S → All (CanBePriced S) (ranked (entrants_for S query) n)
 unfolding ranked
 ranked-priced S query n in_range =
     let entered = entrants_for S query in
-    let each = Each-from_All (λ (l : Line). IsInRange (ad_of l)) S.lines in_range in
-    let apart = AreOfDifferentAccounts-from entered (apart_entrants S query each) in
+    let apart = AreOfDifferentAccounts-from entered (apart_entrants S query in_range) in
     let ads = page entered n in
     let among = members entered ads n (page-first_places entered n apart) in
     All-map (CanBePriced S) (with_next entered) ads (λ k d low.
     let a = get_or ads k d in
     let entrant = among k d low in
-    let fit = fit_entrant S query a each (Has-from_Contains entered a entrant) in
+    let fit = fit_entrant S query a in_range (Has-from_Contains entered a entrant) in
     record {
       reserve = fit.reserve;
       floor = fit.floor;
       ahead = if_some (next_below entered a) _ _ (λ b h. h.below) (next_below-law entered a apart entrant);
     })
 
--- the lines of ads that compete are there
-found_later : (test : Line → Bool) (l : Line) (ls : List Line) → is_some (find test ls) ≡ true → is_some (find test (l ∷ ls)) ≡ true
-found_later test l ls h =
-    elim (cases_Bool (test l)) [
-      | inl t ↦ ap is_some (cond-true (test l) (Some l) (find test ls) t)
-      | inr t ↦ ap is_some (cond-false (test l) (Some l) (find test ls) t) ∙ h
-    ]
-
-line_of_ad : (S : State) (query : List (List ℕ)) (ls : List Line) (a : AdValue) → Has (map ad_of (filter (is_eligible S query) ls)) a → is_some (find (λ (l : Line). l.account == a.account && l.number == a.line) ls) ≡ true
-line_of_ad S query [] a h = absurd (elim h [ ])
-line_of_ad S query (l ∷ ls) a h =
-    let test : Line → Bool = λ m. m.account == a.account && m.number == a.line in
-    elim (cases_Bool (is_eligible S query l)) [
-      | inl t ↦
-          elim (subst (λ ms. Has (map ad_of ms) a) (cond-true (is_eligible S query l) (l ∷ filter (is_eligible S query) ls) _ t) h) [
-            | inl is ↦ ap is_some (cond-true (test l) (Some l) (find test ls) (and_from _ _ (eq-eqb l.account a.account (ap (λ b. b.account) is)) (eq-eqb l.number a.line (ap (λ b. b.line) is))))
-            | inr k ↦ found_later test l ls (line_of_ad S query ls a k)
-          ]
-      | inr t ↦ found_later test l ls (line_of_ad S query ls a (subst (λ ms. Has (map ad_of ms) a) (cond-false (is_eligible S query l) _ (filter (is_eligible S query) ls) t) h))
-    ]
-
-lines_there : (S : State) (entered : List AdValue) (number : ℕ) (ads : List AdValue) → ((a : AdValue) → Has ads a → is_some (line_of S a.account a.line) ≡ true) → All (HasLine S) (all_placed S entered number ads)
-lines_there S entered number [] h = All-nil (HasLine S)
+-- the lines of entrants are there
+lines_there : (S : State) (entered : List AdValue) (number : ℕ) (ads : List AdValue) → ((a : AdValue) → Has ads a → is_some (line_of S.tables a.account a.line) ≡ true) → All (HasLine S.tables) (all_placed S entered number ads)
+lines_there S entered number [] h = All-nil (HasLine S.tables)
 lines_there S entered number (a ∷ ads) h =
-    All-cons (HasLine S) _ (all_placed S entered (number + 1) ads) (h a (inl refl)) (lines_there S entered (number + 1) ads (λ b k. h b (inr k)))
+    All-cons (HasLine S.tables) _ (all_placed S entered (number + 1) ads) (h a (inl refl)) (lines_there S entered (number + 1) ads (λ b k. h b (inr k)))
 
-pub placed-lines : (S : State) (query : List (List ℕ)) (number n : ℕ) → All (λ (l : Line). IsInRange (ad_of l)) S.lines → All (HasLine S) (all_placed S (entrants_for S query) number (page (entrants_for S query) n))
+pub placed-lines : (S : State) (query : List (List ℕ)) (number n : ℕ) → LinesInRange S → All (HasLine S.tables) (all_placed S (entrants_for S query) number (page (entrants_for S query) n))
 placed-lines S query number n in_range =
-    let apart = apart_entrants S query (Each-from_All (λ (l : Line). IsInRange (ad_of l)) S.lines in_range) in
-    lines_there S (entrants_for S query) number (page (entrants_for S query) n) (λ a h.
-    line_of_ad S query S.lines a (entrant_of (eligible_ads S query) a (page_among (entrants_for S query) n a apart h)).0)
-
--- a search keeps a desk sound
-pub sound_searched : (S : State) (text : List ℕ) (places : Option ℕ) → IsSound S → IsSound (accepted S (Search text places)).state
-unfolding accepted
-sound_searched S text places h =
-    record {
-      moment = h.moment;
-      lines = h.lines;
-      placements = All-append (HasLine S) S.placements _ h.placements (placed-lines S (words_of text) (length S.placements + 1) (places_of S places) h.lines);
-    }
+    let apart = apart_entrants S query in_range in
+    lines_there S (entrants_for S query) number (page (entrants_for S query) n) (λ a h. entrant_line S query a (page_among (entrants_for S query) n a apart h))

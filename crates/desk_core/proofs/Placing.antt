@@ -4,7 +4,7 @@ use Rattle.std.proofs.lemmas.List.{take_more, map-append, length-map, length-tak
 use Rattle.desk_types.specs.declared.rows.Placement.{Placement}
 use Rattle.desk_types.specs.AdValue.{AdValue}
 use Rattle.desk_types.specs.State.{State}
-use Rattle.desk_types.specs.Step.{all_placed, placed}
+use Rattle.desk_types.specs.Changes.{all_placed, placed}
 use Rattle.rank_core.specs.declared.page.Ranked.{Ranked}
 
 all_placed-push : (S : State) (entered : List AdValue) (n : ℕ) (ads : List AdValue) (a : AdValue) → all_placed S entered n (ads ++ a ∷ []) ≡ all_placed S entered n ads ++ placed S entered (n + length ads) a ∷ []

@@ -11,15 +11,7 @@ use Rattle.desk_types.specs.declared.refusal.Refusal.TheVariants.{BadField, Plac
 use Rattle.desk_types.specs.declared.refusal.Field.TheVariants as field
 use Rattle.desk_types.specs.Judged.{first, is_bad_places, judged, page_of, refusals, when}
 use Rattle.desk_types.specs.State.{State}
-
--- a row of a table that holds gives its refusal, and one that does not leaves the rest
-pub first_holds : (test : Bool) (refused : Refusal) (later : List (Option Refusal)) → test ≡ true → first (when test refused ∷ later) ≡ Some refused
-first_holds true refused later h = refl
-first_holds false refused later h = absurd cc
-
-pub first_fails : (test : Bool) (refused : Refusal) (later : List (Option Refusal)) → test ≡ false → first (when test refused ∷ later) ≡ first later
-first_fails true refused later h = absurd cc
-first_fails false refused later h = refl
+use Rattle.desk_core.proofs.Tables.{first_holds, first_fails}
 
 short_passes : (text : List ℕ) → length text ≤ QUERY_BYTES → nat_lt QUERY_BYTES (length text) ≡ false
 short_passes text h = grind (arith, nat_tests)
@@ -45,17 +37,17 @@ search_bad_places S text places within h =
 
 -- the last row, where there is room for the page
 search_last : (S : State) (text : List ℕ) (places : Option ℕ) → IsWithinLimits text → is_bad_places places ≡ false
-    → judged S (Search text places) ≡ first (when (nat_lt S.settings.placements (length S.placements + length (page_of S text places))) PlacementsFull ∷ [])
+    → judged S (Search text places) ≡ first (when (nat_lt S.settings.placements (length S.tables.placements + length (page_of S text places))) PlacementsFull ∷ [])
 unfolding refusals
 search_last S text places within good =
     first_fails _ _ _ (short_passes text within.bytes) ∙ first_fails _ _ _ (few_pass text within.words) ∙ first_fails _ _ _ good
 
-pub search_full : (S : State) (text : List ℕ) (places : Option ℕ) → IsWithinLimits text → is_bad_places places ≡ false → nat_le (length S.placements + length (page_of S text places)) S.settings.placements ≡ false → judged S (Search text places) ≡ Some PlacementsFull
+pub search_full : (S : State) (text : List ℕ) (places : Option ℕ) → IsWithinLimits text → is_bad_places places ≡ false → nat_le (length S.tables.placements + length (page_of S text places)) S.settings.placements ≡ false → judged S (Search text places) ≡ Some PlacementsFull
 search_full S text places within good h =
-    let holds : nat_lt S.settings.placements (length S.placements + length (page_of S text places)) ≡ true = grind (arith, nat_tests) in
+    let holds : nat_lt S.settings.placements (length S.tables.placements + length (page_of S text places)) ≡ true = grind (arith, nat_tests) in
     search_last S text places within good ∙ first_holds _ _ [] holds
 
-pub search_not_refused : (S : State) (text : List ℕ) (places : Option ℕ) → IsWithinLimits text → is_bad_places places ≡ false → nat_le (length S.placements + length (page_of S text places)) S.settings.placements ≡ true → judged S (Search text places) ≡ None
+pub search_not_refused : (S : State) (text : List ℕ) (places : Option ℕ) → IsWithinLimits text → is_bad_places places ≡ false → nat_le (length S.tables.placements + length (page_of S text places)) S.settings.placements ≡ true → judged S (Search text places) ≡ None
 search_not_refused S text places within good h =
-    let fails : nat_lt S.settings.placements (length S.placements + length (page_of S text places)) ≡ false = grind (arith, nat_tests) in
+    let fails : nat_lt S.settings.placements (length S.tables.placements + length (page_of S text places)) ≡ false = grind (arith, nat_tests) in
     search_last S text places within good ∙ first_fails _ PlacementsFull [] fails

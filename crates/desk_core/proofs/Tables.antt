@@ -1,26 +1,44 @@
--- A table of refusals whose first ones do not hold.
-use Rattle.std.proofs.Common.{◌≡◌, Option, None, Some, List, [], ◌∷◌, refl}
+-- Tables of refusals that are joined, and rows of a table.
+use Rattle.std.proofs.Common.{◌≡◌, Bool, true, false, Option, None, Some, List, [], ◌∷◌, ◌++◌, refl, sym, subst}
 use Rattle.desk_types.specs.declared.refusal.Refusal.{Refusal}
-use Rattle.desk_types.specs.Judged.{first}
+use Rattle.desk_types.specs.Judged.{first, when}
+use Rattle.desk_core.specs.declared.stop.Stop.{Stop}
+use Rattle.desk_core.specs.declared.stop.Stop.TheVariants.{Refused, NoMemory}
+use Rattle.desk_core.specs.Planned.{IsFirst}
 
-pub past_one : (a : Option Refusal) (later : List (Option Refusal)) → a ≡ None → first (a ∷ later) ≡ first later
-past_one None later h = refl
-past_one (Some refused) later h = absurd cc
+-- where no refusal of the one table holds, the first is that of the other
+pub first-past : (rows more : List (Option Refusal)) → first rows ≡ None → first (rows ++ more) ≡ first more
+first-past [] more h = refl
+first-past (None ∷ rows) more h = first-past rows more h
+first-past (Some refused ∷ rows) more h = absurd cc
 
-pub past_three : (a b c : Option Refusal) (later : List (Option Refusal)) → first (a ∷ b ∷ c ∷ []) ≡ None → first (a ∷ b ∷ c ∷ later) ≡ first later
-past_three None None None later h = refl
-past_three None None (Some refused) later h = absurd cc
-past_three None (Some refused) c later h = absurd cc
-past_three (Some refused) b c later h = absurd cc
+-- what stops at the one table stops at both
+pub stopped-among : (rows more : List (Option Refusal)) (stop : Stop) → IsFirst rows stop → IsFirst (rows ++ more) stop
+stopped-among rows more NoMemory h = tt
+stopped-among [] more (Refused refused) h = absurd cc
+stopped-among (None ∷ rows) more (Refused refused) h = stopped-among rows more (Refused refused) h
+stopped-among (Some other ∷ rows) more (Refused refused) h = h
 
-pub past_four : (a b c d : Option Refusal) (later : List (Option Refusal)) → first (a ∷ b ∷ c ∷ d ∷ []) ≡ None → first (a ∷ b ∷ c ∷ d ∷ later) ≡ first later
-past_four None b c d later h = past_three b c d later h
-past_four (Some refused) b c d later h = absurd cc
+-- what stops at the other stops at both, where no refusal of the one holds
+pub stopped-past : (rows more : List (Option Refusal)) (stop : Stop) → first rows ≡ None → IsFirst more stop → IsFirst (rows ++ more) stop
+stopped-past rows more NoMemory h k = tt
+stopped-past [] more (Refused refused) h k = k
+stopped-past (None ∷ rows) more (Refused refused) h k = stopped-past rows more (Refused refused) h k
+stopped-past (Some other ∷ rows) more (Refused refused) h k = absurd cc
 
--- one of the first ones of a table holds
-pub among_four : (a b c d : Option Refusal) (later : List (Option Refusal)) (refused : Refusal) → first (a ∷ b ∷ c ∷ d ∷ []) ≡ Some refused → first (a ∷ b ∷ c ∷ d ∷ later) ≡ Some refused
-among_four (Some other) b c d later refused h = h
-among_four None (Some other) c d later refused h = h
-among_four None None (Some other) d later refused h = h
-among_four None None None (Some other) later refused h = h
-among_four None None None None later refused h = absurd cc
+-- a row that holds gives its refusal, and one that does not leaves the rest
+pub first_holds : (test : Bool) (refused : Refusal) (later : List (Option Refusal)) → test ≡ true → first (when test refused ∷ later) ≡ Some refused
+first_holds true refused later h = refl
+first_holds false refused later h = absurd cc
+
+pub first_fails : (test : Bool) (refused : Refusal) (later : List (Option Refusal)) → test ≡ false → first (when test refused ∷ later) ≡ first later
+first_fails true refused later h = absurd cc
+first_fails false refused later h = refl
+
+pub row_stops : (test : Bool) (refused : Refusal) (later : List (Option Refusal)) (stop : Stop) → test ≡ true → stop ≡ Refused refused → IsFirst (when test refused ∷ later) stop
+row_stops test refused later stop holds is = subst (IsFirst (when test refused ∷ later)) (sym is) (first_holds test refused later holds)
+
+pub row_passes : (test : Bool) (refused : Refusal) (later : List (Option Refusal)) (stop : Stop) → test ≡ false → IsFirst later stop → IsFirst (when test refused ∷ later) stop
+row_passes true refused later stop fails h = absurd cc
+row_passes false refused later NoMemory fails h = tt
+row_passes false refused later (Refused other) fails h = h

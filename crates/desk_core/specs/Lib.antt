@@ -1,9 +1,8 @@
 pub mod Charges
 pub mod DeskValue
-pub mod Ends
 pub mod JournalValue
+pub mod LedgerValue
 pub mod PatternStop
+pub mod Planned
 pub mod Shown
 pub mod SoloValue
-pub mod Sound
-pub mod TableParts

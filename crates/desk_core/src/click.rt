@@ -1,66 +1,66 @@
-//! A click.
+//! Clicks.
 
-ghost use Rattle.std.specs.Prelude.{◌≡◌, map, is_some, IsTrue, IsSome, IfSome, ◌↔◌};
+ghost use Rattle.std.specs.Prelude.{◌≡◌, ◌≢◌, Some, IfErr, IfOk};
 ghost use Rattle.std.specs.Option.{option_copied};
-ghost use Rattle.desk_types.specs.Judged.{judged};
-ghost use Rattle.desk_types.specs.State.{placement_of};
-ghost use Rattle.desk_types.specs.Step.{answered, clicked, link_clicked};
-ghost use Rattle.desk_core.specs.Sound.{IsSound};
+ghost use Rattle.desk_types.specs.declared.call.Call.{Call};
+ghost use Rattle.desk_types.specs.Changes.{settlement};
+ghost use Rattle.desk_types.specs.Sound.{IsSound};
+ghost use Rattle.desk_types.specs.Tables.{placement_of};
+ghost use Rattle.desk_core.specs.Planned.{IsPlanned, IsStop, listed};
 
 use crate::ledger::Ledger;
-use crate::money::is_held;
-use desk_types::{Call, Fate, LinkText, Placement, Refusal, Reply};
+use crate::money::is_escrowed;
+use crate::plan::{Changes, Plan};
+use crate::stop::Stop;
+use desk_types::{Change, Fate, LinkText, Placement, Refusal, Reply};
 
 impl Ledger {
-    /// Answers a click on the placement of this number: it settles where the price was held, and
-    /// goes to the line's link in either case. It takes no memory.
-    #[tactic(auto, unfolding(desk_types::specs::Judged::refusals, desk_types::specs::Step::accepted))]
-    pub(crate) fn click(&mut self, placement: u64) -> Reply
-        requires sound { IsSound self.old }
-        ensures state { self.new ≡ (answered self.old (Call.Click placement) (judged self.old (Call.Click placement))).state }
-        ensures reply { result ≡ (answered self.old (Call.Click placement) (judged self.old (Call.Click placement))).reply }
+    /// Plans a click on the placement of this number: it settles where the price is escrowed, and goes to the line's
+    /// link in either case. It takes no memory.
+    #[tactic(auto, unfolding(desk_types::specs::Judged::refusals, desk_types::specs::Changes::changes, desk_types::specs::Changes::reply))]
+    pub(crate) fn plan_click(&self, placement: u64) -> Result<Plan, Stop>
+        requires sound { IsSound self.now.state }
+        ensures planned { IfOk result (IsPlanned self.now.state (Call.Click placement)) }
+        ensures stopped { IfErr result (IsStop self.now.state (Call.Click placement)) }
+        ensures no_memory { IfErr result (λ stop. stop ≢ Stop.NoMemory) }
     {
-        let Some(link) = self.link_clicked(placement) else {
-            return Reply::Refused(Refusal::NoPlacement);
+        let Some(found) = self.placement_of(placement) else {
+            return Err(Stop::Refused(Refusal::NoPlacement));
         };
-        let moment = self.moment;
-        settle(&mut self.placements, moment, placement);
-        Reply::Went(link)
-    }
-
-    /// The link of a placement's line, where there is such a placement.
-    fn link_clicked(&self, placement: u64) -> Option<LinkText>
-        requires sound { IsSound self.now }
-        ensures known { IsSome result ↔ IsTrue (is_some (placement_of self.now placement)) }
-        ensures link { IfSome result (λ link. link ≡ link_clicked self.now placement) }
-    {
-        let found = self.placement_of(placement)?;
         let line = self.line_there(found.account, found.line);
-        LinkText::read(line.link.as_str())
+        Ok(Plan {
+            changes: settlement(self.moment, found),
+            reply: Reply::Went(copy_of(&line.link)),
+        })
     }
 
     /// The placement of this number, if there is one.
-    fn placement_of(&self, placement: u64) -> Option<&Placement>
-        ensures { option_copied result ≡ placement_of self.now placement }
+    pub(crate) fn placement_of(&self, placement: u64) -> Option<&Placement>
+        ensures { option_copied result ≡ placement_of self.now.state.tables placement }
     {
         self.placements.iter().find(|p| p.number == placement)
     }
 }
 
-/// Settles the placement of this number, where its price is held at the moment.
-fn settle(placements: &mut [Placement], moment: u64, placement: u64)
-    ensures { placements.new ≡ map (clicked moment placement) placements.old }
+/// What a click on a placement changes at a moment.
+fn settlement(moment: u64, found: &Placement) -> Changes
+    ensures { listed result ≡ settlement moment (Some found.now) }
 {
-    for row in placements.iter_mut() {
-        settle_row(row, moment, placement);
+    if !is_escrowed(found, moment) {
+        return Changes::Nothing;
     }
+    Changes::One(Change::PutFate {
+        number: found.number,
+        fate: Fate::Settled(moment),
+    })
 }
 
-/// The same of one row.
-fn settle_row(row: &mut Placement, moment: u64, placement: u64)
-    ensures { row.new ≡ clicked moment placement row.old }
+/// An equal link. It takes no memory.
+fn copy_of(link: &LinkText) -> LinkText
+    ensures { result ≡ link.now }
 {
-    if row.number == placement && is_held(row, moment) {
-        row.fate = Fate::Settled(moment);
+    match LinkText::read(link.as_str()) {
+        Some(copy) => copy,
+        None => unreachable!(),
     }
 }

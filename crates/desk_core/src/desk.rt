@@ -1,14 +1,18 @@
 //! The desk.
 
-ghost use Rattle.std.specs.Prelude.{◌≡◌, ◌≢◌, ◌≤◌, ℕ, true, [], length, OnOk, Result};
+ghost use Rattle.std.specs.Prelude.{◌≡◌, ◌≢◌, ◌<◌, ◌≤◌, ◌+◌, ◌-◌, ◌^◌, ℕ, true, [], length, IfOk, IsOk, OnErr, OnOk, Result};
 ghost use Rattle.desk_types.specs.declared.call.Call.{Call};
 ghost use Rattle.desk_types.specs.declared.entry.Fault.{Fault};
 ghost use Rattle.desk_types.specs.Journal.{IsLegal, bytes_of, is_full};
+ghost use Rattle.desk_types.specs.Judged.{judged};
 ghost use Rattle.desk_types.specs.Serving.{HasNoFault, IsSureResult};
+ghost use Rattle.desk_types.specs.Sound.{IsSound};
+ghost use Rattle.desk_types.specs.Step.{answered};
 ghost use Rattle.desk_core.specs.DeskValue.{Answers};
 
 use crate::journal::Journal;
 use crate::ledger::Ledger;
+use crate::stop::Stop;
 use desk_types::{Call, Entry, Fault, Reply, Settings};
 use std::alloc::{AllocError, Global};
 use std::marker::Model;
@@ -30,7 +34,7 @@ impl Model for Desk {
 
     ghost view = { λ d. record { settings = d.journal.settings; log = d.journal.entries; spare = d.journal.spare } };
 
-    ghost invariant = { λ d. IsReached d.ledger d.journal };
+    ghost invariant = { λ d. IsReached d.ledger.state d.journal };
 }
 
 impl Desk {
@@ -50,21 +54,22 @@ impl Desk {
     /// `Ok` is the ledger's answer after the calls of the journal, and the call is then the journal's
     /// last entry. `Fault::JournalFull` comes exactly where the journal has no room for the call, and
     /// is judged before all else. `Fault::NoMemory` is want of memory, which never comes for a click
-    /// where there is room for an entry. A fault changes nothing.
+    /// where there is room for an entry. A fault changes nothing. The room falls by one at most, and
+    /// only with an entry.
     pub fn call(&mut self, caller: u64, moment: u64, call: Call) -> Result<Reply, Fault>
         ensures settings { self.new.settings ≡ self.old.settings }
         ensures answers { Answers caller self.old moment call result self.new }
         ensures full_first { is_full self.old.settings self.old.log call ≡ true → result ≡ Err (Fault.JournalFull (length self.old.log) (bytes_of self.old.log)) }
         ensures no_keeper { IsSureResult result }
         ensures click { (placement : ℕ) → call ≡ Call.Click placement → 1 ≤ self.old.spare → result ≢ Err Fault.NoMemory }
+        ensures spare { length self.old.log + self.old.spare ≤ length self.new.log + self.new.spare }
     {
         if let Some(fault) = self.journal.fault_of(&call) {
             return Err(fault);
         }
-        if self.journal.reserve(1).is_err() {
-            return Err(Fault::NoMemory);
-        }
-        let Ok(reply) = self.ledger.step(moment, &call) else {
+        let before = self.ledger.go_to(moment);
+        let Ok(reply) = answer(&mut self.ledger, &mut self.journal, &call) else {
+            self.ledger.go_back(before);
             return Err(Fault::NoMemory);
         };
         self.journal.put(caller, moment, call);
@@ -73,7 +78,7 @@ impl Desk {
 
     /// Makes room for so many further entries of the journal. Nothing else changes, and nothing at all
     /// where memory is wanted.
-    pub fn reserve(&mut self, additional: usize) -> Result<(), AllocError>
+    pub fn reserve(&mut self, additional: u64) -> Result<(), AllocError>
         ensures room { OnOk result (additional ≤ self.new.spare) }
         ensures spare { self.old.spare ≤ self.new.spare }
         ensures settings { self.new.settings ≡ self.old.settings }
@@ -89,5 +94,32 @@ impl Desk {
         ensures no_fault { HasNoFault result.now }
     {
         self.journal.entries()
+    }
+}
+
+/// Answers a call at the moment that the rows have, and makes room for its entry. Where memory is wanted, the rows and
+/// the entries are as they were.
+fn answer(ledger: &mut Ledger, journal: &mut Journal, call: &Call) -> Result<Reply, AllocError>
+    requires sound { IsSound ledger.old.state }
+    requires edition { ledger.old.state.edition < 2 ^ 64 - 1 }
+    ensures state { OnOk result (ledger.new.state ≡ (answered ledger.old.state call.now (judged ledger.old.state call.now)).state) }
+    ensures reply { IfOk result (λ reply. reply ≡ (answered ledger.old.state call.now (judged ledger.old.state call.now)).reply) }
+    ensures same { OnErr result (ledger.new.state ≡ ledger.old.state) }
+    ensures room { OnOk result (1 ≤ journal.new.spare) }
+    ensures spare { journal.old.spare ≤ journal.new.spare }
+    ensures settings { journal.new.settings ≡ journal.old.settings }
+    ensures entries { journal.new.entries ≡ journal.old.entries }
+    ensures click { (placement : ℕ) → call.now ≡ Call.Click placement → 1 ≤ journal.old.spare → IsOk result }
+{
+    let planned = ledger.plan(call);
+    journal.reserve(1)?;
+    match planned {
+        Ok(plan) => {
+            ledger.make_room(plan.changes.as_slice())?;
+            ledger.accept(call, plan.changes);
+            Ok(plan.reply)
+        }
+        Err(Stop::Refused(refusal)) => Ok(Reply::Refused(refusal)),
+        Err(Stop::NoMemory) => Err(AllocError),
     }
 }

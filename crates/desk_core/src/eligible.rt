@@ -2,7 +2,7 @@
 
 ghost use Rattle.std.specs.Prelude.{◌≡◌, ◌==◌, ◌&&◌, not, All, IfOk};
 ghost use Rattle.desk_types.specs.AdValue.{IsInRange};
-ghost use Rattle.desk_types.specs.Eligible.{ad_of, eligible_ads, has_active_account, has_active_campaign, is_eligible, is_kept_out, is_matched, meets_floor, meets_reserve};
+ghost use Rattle.desk_types.specs.Eligible.{ad_of, eligible_ads, has_active_account, has_active_campaign, is_candidate, is_eligible, is_kept_out, is_matched, meets_floor, meets_reserve};
 
 use crate::ledger::Ledger;
 use desk_types::{Account, Ad, Campaign, Line, Negative};
@@ -13,8 +13,8 @@ use std::alloc::AllocError;
 impl Ledger {
     /// The lines that compete for the words of a query, as ads.
     pub(crate) fn eligible_ads(&self, query: &Words) -> Result<Vec<Ad>, AllocError>
-        requires { All (λ l. IsInRange (ad_of l)) self.now.lines }
-        ensures { IfOk result (λ ads. ads.items ≡ eligible_ads self.now query.now) }
+        requires { All (λ l. IsInRange (ad_of l)) self.now.state.tables.lines }
+        ensures { IfOk result (λ ads. ads.items ≡ eligible_ads self.now.state query.now) }
     {
         let mut ads = Vec::new(*self.lines.allocator());
         for line in &self.lines {
@@ -26,10 +26,18 @@ impl Ledger {
     }
 
     /// Whether a line competes for the words of a query.
-    #[tactic(auto, unfolding(desk_types::specs::Eligible::is_eligible))]
     fn is_eligible(&self, query: &Words, line: &Line) -> bool
         requires { IsInRange (ad_of line.now) }
-        ensures { result ≡ is_eligible self.now query.now line.now }
+        ensures { result ≡ is_eligible self.now.state query.now line.now }
+    {
+        self.is_candidate(query, line) && self.can_pay(line)
+    }
+
+    /// Whether a line competes for the words of a query, its campaign's money aside.
+    #[tactic(auto, unfolding(desk_types::specs::Eligible::is_candidate))]
+    fn is_candidate(&self, query: &Words, line: &Line) -> bool
+        requires { IsInRange (ad_of line.now) }
+        ensures { result ≡ is_candidate self.now.state query.now line.now }
     {
         line.on
             && is_matched(&line.pattern, query)
@@ -38,12 +46,11 @@ impl Ledger {
             && self.has_active_account(line)
             && self.has_active_campaign(line)
             && !self.is_kept_out(query, line)
-            && self.can_pay(line)
     }
 
     /// Whether its account is there and not suspended.
     fn has_active_account(&self, line: &Line) -> bool
-        ensures { result ≡ has_active_account self.now line.now }
+        ensures { result ≡ has_active_account self.now.state line.now }
     {
         self.accounts
             .iter()
@@ -52,7 +59,7 @@ impl Ledger {
 
     /// Whether its campaign is there and on.
     fn has_active_campaign(&self, line: &Line) -> bool
-        ensures { result ≡ has_active_campaign self.now line.now }
+        ensures { result ≡ has_active_campaign self.now.state line.now }
     {
         self.campaigns
             .iter()
@@ -61,7 +68,7 @@ impl Ledger {
 
     /// Whether a live negative of its campaign matches the query.
     fn is_kept_out(&self, query: &Words, line: &Line) -> bool
-        ensures { result ≡ is_kept_out self.now query.now line.now }
+        ensures { result ≡ is_kept_out self.now.state query.now line.now }
     {
         self.negatives
             .iter()
@@ -70,7 +77,7 @@ impl Ledger {
 
     /// Whether its bid is at least the reserve.
     fn meets_reserve(&self, line: &Line) -> bool
-        ensures { result ≡ meets_reserve self.now line.now }
+        ensures { result ≡ meets_reserve self.now.state line.now }
     {
         self.settings.reserve() <= line.bid
     }
@@ -78,7 +85,7 @@ impl Ledger {
     /// Whether its score is at least the floor.
     fn meets_floor(&self, line: &Line) -> bool
         requires { IsInRange (ad_of line.now) }
-        ensures { result ≡ meets_floor self.now line.now }
+        ensures { result ≡ meets_floor self.now.state line.now }
     {
         self.settings.floor() <= ad_of(line).score()
     }

@@ -1,16 +1,23 @@
 //! Rows that are looked for and counted.
 
-ghost use Rattle.std.specs.Prelude.{◌≡◌, ◌<◌, ◌^◌, ◌==◌, ◌&&◌, count_by, bytes_eq};
+ghost use Rattle.std.specs.Prelude.{◌≡◌, ◌<◌, ◌^◌, ◌==◌, ◌&&◌, count_by, find, is_none, option_copied, bytes_eq};
 ghost use Rattle.std.specs.List.{list_any};
 
 use desk_types::{Account, Campaign, Line, Negative};
 use query_words::Text;
 
-/// Whether there is an account of this number.
-pub(crate) fn has_account(accounts: &[Account], account: u64) -> bool
-    ensures { result ≡ list_any (λ a. a.number == account) accounts.now }
+/// The account of this number, if there is one.
+fn account_of(accounts: &[Account], account: u64) -> Option<&Account>
+    ensures { option_copied result ≡ find (λ a. a.number == account) accounts.now }
 {
-    accounts.iter().any(|row| row.number == account)
+    accounts.iter().find(|row| row.number == account)
+}
+
+/// Whether there is no account of this number.
+pub(crate) fn lacks_account(accounts: &[Account], account: u64) -> bool
+    ensures { result ≡ is_none (find (λ a. a.number == account) accounts.now) }
+{
+    account_of(accounts, account).is_none()
 }
 
 /// Whether the key is that of the account.
@@ -22,13 +29,20 @@ pub(crate) fn fits_key(accounts: &[Account], account: u64, key: &Text) -> bool
         .any(|row| row.number == account && row.key == *key)
 }
 
-/// Whether the account has a campaign of this number.
-pub(crate) fn has_campaign(campaigns: &[Campaign], account: u64, campaign: u64) -> bool
-    ensures { result ≡ list_any (λ c. c.account == account && c.number == campaign) campaigns.now }
+/// The account's campaign of this number, if there is one.
+fn campaign_of(campaigns: &[Campaign], account: u64, campaign: u64) -> Option<&Campaign>
+    ensures { option_copied result ≡ find (λ c. c.account == account && c.number == campaign) campaigns.now }
 {
     campaigns
         .iter()
-        .any(|row| row.account == account && row.number == campaign)
+        .find(|row| row.account == account && row.number == campaign)
+}
+
+/// Whether the account has no campaign of this number.
+pub(crate) fn lacks_campaign(campaigns: &[Campaign], account: u64, campaign: u64) -> bool
+    ensures { result ≡ is_none (find (λ c. c.account == account && c.number == campaign) campaigns.now) }
+{
+    campaign_of(campaigns, account, campaign).is_none()
 }
 
 /// Whether the account has a live negative of this number.

@@ -1,6 +1,6 @@
 //! The journal of a desk.
 
-ghost use Rattle.std.specs.Prelude.{◌≡◌, ◌≤◌, ◌-◌, true, false, [], length, filter, map, ◌==◌, OnOk, IsOk, MatchOption};
+ghost use Rattle.std.specs.Prelude.{◌≡◌, ◌≤◌, ◌+◌, ◌-◌, true, false, [], length, filter, map, ◌==◌, OnOk, IsOk, MatchOption};
 ghost use Rattle.std.specs.List.{range_with_len};
 ghost use Rattle.desk_types.specs.declared.entry.Fault.{Fault};
 ghost use Rattle.desk_types.specs.declared.entry.Outcome.{Outcome};
@@ -77,20 +77,21 @@ impl Journal {
     }
 
     /// Makes room for so many further entries.
-    pub fn reserve(&mut self, additional: usize) -> Result<(), AllocError>
+    pub fn reserve(&mut self, additional: u64) -> Result<(), AllocError>
         ensures room { OnOk result (additional ≤ self.new.spare) }
         ensures spare { self.old.spare ≤ self.new.spare }
         ensures settings { self.new.settings ≡ self.old.settings }
         ensures entries { self.new.entries ≡ self.old.entries }
         ensures succeeds { additional ≤ self.old.spare → IsOk result }
     {
-        self.entries.reserve(additional)
+        self.entries.reserve(additional as usize)
     }
 
     /// Puts the entry of an answered call, the caller's next one. It takes no memory.
     pub fn put(&mut self, caller: u64, moment: u64, call: Call)
         requires room { 1 ≤ self.old.spare }
         requires fits { is_full self.old.settings self.old.entries call ≡ false }
+        ensures spare { self.old.spare ≤ self.new.spare + 1 }
         ensures settings { self.new.settings ≡ self.old.settings }
         ensures entries { self.new.entries ≡ with_entry caller self.old.entries moment call Outcome.Answered }
     {

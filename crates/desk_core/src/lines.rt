@@ -1,52 +1,24 @@
 //! The making of lines.
 
-ghost use Rattle.std.specs.Prelude.{◌≡◌, ◌+◌, ◌<◌, ◌-◌, ◌^◌, true, None, find, option_copied, IfOk, IfErr, OnErr, OnOk};
-ghost use Rattle.match_types.specs.Marks.{trimmed};
+ghost use Rattle.std.specs.Prelude.{◌≡◌, [], ◌∷◌, None, find, option_map, option_copied, IfErr, IfOk, OnOk};
 ghost use Rattle.desk_types.specs.declared.call.Call.{Call};
-ghost use Rattle.desk_types.specs.Judged.{first, judged};
-ghost use Rattle.desk_types.specs.State.{lines_of};
-ghost use Rattle.desk_core.specs.Ends.{IsAccepted, IsStop};
-ghost use Rattle.desk_core.specs.TableParts.{bid_refusal, is_line_like, line_refusals};
+ghost use Rattle.desk_types.specs.Changes.{line_made};
+ghost use Rattle.desk_types.specs.Judged.{AskedLine, first, is_line_like, line_rows};
+ghost use Rattle.desk_core.specs.Planned.{IsFirst, IsPlanned, IsStop};
 
-use crate::accounts::put;
 use crate::finds::count_lines;
 use crate::ledger::Ledger;
-use crate::stop::Stop;
+use crate::plan::Plan;
+use crate::stop::{Stop, when};
 use desk_types::limits::{BID_MAX, BID_MIN, LINES_MAX, QUALITY_NEW};
-use desk_types::{Field, Line, LinkText, Refusal, Reply, is_headline};
+use desk_types::{Change, Field, Line, LinkText, Refusal, Reply, is_headline};
 use match_types::Pattern;
 use query_words::{Text, Twin};
 
 impl Ledger {
-    /// Makes a line, which is on from the start.
-    ///
-    /// It fails where the call is refused, and for want of memory; the rows are then as they were.
-    #[tactic(auto, unfolding(desk_types::specs::Step::accepted))]
-    pub(crate) fn add_line(
-        &mut self,
-        account: u64,
-        key: &Text,
-        campaign: u64,
-        bid: u64,
-        pattern: &Text,
-        headline: &Text,
-        link: &Text,
-    ) -> Result<Reply, Stop>
-        requires { self.old.edition < 2 ^ 64 - 1 }
-        ensures accepted { IfOk result (IsAccepted self.old (Call.AddLine account key.now campaign bid pattern.now headline.now link.now) self.new) }
-        ensures stopped { IfErr result (IsStop self.old (Call.AddLine account key.now campaign bid pattern.now headline.now link.now)) }
-        ensures same { OnErr result (self.new ≡ self.old) }
-    {
-        let line = self.new_line(account, key, campaign, bid, pattern, headline, link)?;
-        let number = line.number;
-        put(&mut self.lines, line)?;
-        self.edition += 1;
-        Ok(Reply::Made(number))
-    }
-
-    /// The row of a line that may be made, or why none is.
-    #[tactic(auto, unfolding(desk_types::specs::Judged::refusals))]
-    fn new_line(
+    /// Plans a line, which is on from the start.
+    #[tactic(auto, unfolding(desk_types::specs::Judged::refusals, desk_types::specs::Changes::changes, desk_types::specs::Changes::reply))]
+    pub(crate) fn plan_line(
         &self,
         account: u64,
         key: &Text,
@@ -55,24 +27,53 @@ impl Ledger {
         pattern: &Text,
         headline: &Text,
         link: &Text,
-    ) -> Result<Line, Stop>
-        ensures row { IfOk result (λ line. line ≡ record { account = account; number = lines_of self.now account + 1; campaign = campaign; pattern = trimmed pattern.now; headline = headline.now; link = link.now; bid = bid; quality = QUALITY_NEW; on = true }) }
-        ensures accepted { OnOk result (judged self.now (Call.AddLine account key.now campaign bid pattern.now headline.now link.now) ≡ None) }
-        ensures stopped { IfErr result (IsStop self.now (Call.AddLine account key.now campaign bid pattern.now headline.now link.now)) }
+    ) -> Result<Plan, Stop>
+        ensures planned { IfOk result (IsPlanned self.now.state
+            (Call.AddLine account key.now campaign bid pattern.now headline.now link.now)) }
+        ensures stopped { IfErr result (IsStop self.now.state
+            (Call.AddLine account key.now campaign bid pattern.now headline.now link.now)) }
     {
-        if let Some(refusal) = self.judge_bid(account, key, campaign, bid) {
-            return Err(Stop::Refused(refusal));
-        }
+        self.judge_owner(account, key)?;
+        let line = self.line_made(account, campaign, bid, pattern, headline, link)?;
+        let number = line.number;
+        Ok(Plan::one(Change::PutLine(line), Reply::Made(number)))
+    }
+
+    /// The row of a line that an account asks for, or why it is refused.
+    fn line_made(
+        &self,
+        account: u64,
+        campaign: u64,
+        bid: u64,
+        pattern: &Text,
+        headline: &Text,
+        link: &Text,
+    ) -> Result<Line, Stop>
+        ensures line { let asked : AskedLine = record { campaign = campaign; bid = bid; pattern = pattern.now; headline = headline.now; link = link.now } in
+            IfOk result (λ line. line ≡ line_made self.now.state.tables account asked) }
+        ensures passed { let asked : AskedLine = record { campaign = campaign; bid = bid; pattern = pattern.now; headline = headline.now; link = link.now } in
+            OnOk result (first (line_rows self.now.state.tables account asked) ≡ None) }
+        ensures stopped { let asked : AskedLine = record { campaign = campaign; bid = bid; pattern = pattern.now; headline = headline.now; link = link.now } in
+            IfErr result (IsFirst (line_rows self.now.state.tables account asked)) }
+    {
+        self.judge_campaign(account, campaign)?;
+        when(
+            !(BID_MIN..=BID_MAX).contains(&bid),
+            Refusal::BadField(Field::Bid),
+        )?;
         let pattern = Pattern::read(*self.lines.allocator(), pattern.as_str())?;
-        if !is_headline(headline.as_str()) {
-            return Err(Stop::Refused(Refusal::BadField(Field::Headline)));
-        }
+        when(
+            !is_headline(headline.as_str()),
+            Refusal::BadField(Field::Headline),
+        )?;
         let Some(link) = LinkText::read(link.as_str()) else {
             return Err(Stop::Refused(Refusal::BadField(Field::Link)));
         };
-        if let Some(refusal) = self.judge_line(account, campaign, &pattern) {
-            return Err(Stop::Refused(refusal));
-        }
+        self.judge_same_line(account, campaign, &pattern)?;
+        when(
+            count_lines(&self.lines, account) >= LINES_MAX,
+            Refusal::LinesFull,
+        )?;
         Ok(Line {
             account,
             number: count_lines(&self.lines, account) + 1,
@@ -86,30 +87,16 @@ impl Ledger {
         })
     }
 
-    /// Why a line in this campaign with this bid is refused before its texts are read, if it is.
-    fn judge_bid(&self, account: u64, key: &Text, campaign: u64, bid: u64) -> Option<Refusal>
-        ensures { result ≡ bid_refusal self.now account key.now campaign bid }
+    /// Judges whether the campaign has a line of this pattern.
+    fn judge_same_line(&self, account: u64, campaign: u64, pattern: &Pattern) -> Result<(), Stop>
+        ensures passed { OnOk result (find (is_line_like account campaign pattern.now) self.now.state.tables.lines ≡ None) }
+        ensures stopped { IfErr result (IsFirst (option_map (λ l. Refusal.LineThere l.number)
+            (find (is_line_like account campaign pattern.now) self.now.state.tables.lines) ∷ [])) }
     {
-        if let Some(refusal) = self.judge_place(account, key, campaign) {
-            return Some(refusal);
+        match same_line(&self.lines, account, campaign, pattern) {
+            Some(there) => Err(Stop::Refused(Refusal::LineThere(there.number))),
+            None => Ok(()),
         }
-        if !(BID_MIN..=BID_MAX).contains(&bid) {
-            return Some(Refusal::BadField(Field::Bid));
-        }
-        None
-    }
-
-    /// Why a line of this pattern is not made, if it is not.
-    fn judge_line(&self, account: u64, campaign: u64, pattern: &Pattern) -> Option<Refusal>
-        ensures { result ≡ first (line_refusals self.now account campaign pattern.now) }
-    {
-        if let Some(there) = same_line(&self.lines, account, campaign, pattern) {
-            return Some(Refusal::LineThere(there.number));
-        }
-        if count_lines(&self.lines, account) >= LINES_MAX {
-            return Some(Refusal::LinesFull);
-        }
-        None
     }
 }
 

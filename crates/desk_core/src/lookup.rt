@@ -2,7 +2,7 @@
 
 ghost use Rattle.std.specs.Prelude.{◌≡◌, IsTrue, is_some};
 ghost use Rattle.std.specs.Option.{option_copied};
-ghost use Rattle.desk_types.specs.State.{line_of};
+ghost use Rattle.desk_types.specs.Tables.{line_of};
 
 use crate::ledger::Ledger;
 use desk_types::Line;
@@ -10,8 +10,8 @@ use desk_types::Line;
 impl Ledger {
     /// The line of an account and a number that is there.
     pub(crate) fn line_there(&self, account: u64, line: u64) -> &Line
-        requires { IsTrue (is_some (line_of self.now account line)) }
-        ensures { line_of self.now account line ≡ Some result.now }
+        requires { IsTrue (is_some (line_of self.now.state.tables account line)) }
+        ensures { line_of self.now.state.tables account line ≡ Some result.now }
     {
         match self.line_of(account, line) {
             Some(line) => line,
@@ -21,7 +21,7 @@ impl Ledger {
 
     /// The line of an account and a number, if there is one.
     fn line_of(&self, account: u64, line: u64) -> Option<&Line>
-        ensures { option_copied result ≡ line_of self.now account line }
+        ensures { option_copied result ≡ line_of self.now.state.tables account line }
     {
         self.lines
             .iter()

@@ -4,7 +4,7 @@ ghost use Rattle.std.specs.Prelude.{◌≡◌, ◌<◌, ◌^◌, ◌&&◌, nat_l
 ghost use Rattle.std.specs.List.{list_any};
 ghost use Rattle.desk_types.specs.Day.{day_of as the_day_of};
 ghost use Rattle.desk_types.specs.Eligible.{can_pay};
-ghost use Rattle.desk_types.specs.Money.{budget, is_held, is_latest, is_paid, is_set_by, is_shown_on, used};
+ghost use Rattle.desk_types.specs.Money.{budget, is_escrowed, is_latest, is_set_by, is_shown_on, is_spent, used};
 ghost use Rattle.desk_core.specs.Charges.{is_charged};
 
 use crate::ledger::Ledger;
@@ -21,7 +21,7 @@ struct CampaignDay {
 impl Ledger {
     /// Whether what is free today of its campaign's budget is at least the line's bid.
     pub(crate) fn can_pay(&self, line: &Line) -> bool
-        ensures { result ≡ can_pay self.now line.now }
+        ensures { result ≡ can_pay self.now.state line.now }
     {
         let today = CampaignDay {
             account: line.account,
@@ -36,14 +36,14 @@ impl Ledger {
     /// The budget of a campaign on a day, in cents.
     #[tactic(auto, unfolding(desk_types::specs::Money::budget))]
     fn budget(&self, of: CampaignDay) -> u64
-        ensures { result ≡ budget self.now of.account of.campaign of.day }
+        ensures { result ≡ budget self.now.state of.account of.campaign of.day }
     {
         latest_amount(&self.budgets, of)
     }
 
-    /// What is spent or held of it, in cents.
+    /// What is spent or escrowed of it, in cents.
     fn used(&self, of: CampaignDay) -> u128
-        ensures sum { result ≡ used self.now of.account of.campaign of.day }
+        ensures sum { result ≡ used self.now.state of.account of.campaign of.day }
         ensures fits { result < 2 ^ 127 }
     {
         charged(&self.placements, of, self.moment)
@@ -88,8 +88,8 @@ fn replaces(other: &BudgetSet, setting: &BudgetSet, of: CampaignDay) -> bool
     is_set_by(other, of) && day_of(setting.at) < day_of(other.at)
 }
 
-/// The prices, added up, of the placements of the campaign that were shown on the day and are paid,
-/// or held at the moment.
+/// The prices, added up, of the placements of the campaign that were shown on the day and are
+/// spent, or escrowed at the moment.
 fn charged(placements: &[Placement], of: CampaignDay, moment: u64) -> u128
     ensures sum { result ≡ sum_by (λ p. p.price) (filter (is_charged of.account of.campaign of.day moment) placements.now) }
     ensures fits { result < 2 ^ 127 }
@@ -107,7 +107,7 @@ fn charged(placements: &[Placement], of: CampaignDay, moment: u64) -> u128
 fn is_charged(placement: &Placement, of: CampaignDay, moment: u64) -> bool
     ensures { result ≡ is_charged of.account of.campaign of.day moment placement.now }
 {
-    is_shown_on(placement, of) && (is_paid(placement.fate) || is_held(placement, moment))
+    is_shown_on(placement, of) && (is_spent(placement.fate) || is_escrowed(placement, moment))
 }
 
 /// Whether a placement is of this campaign and was shown on this day.
@@ -119,9 +119,9 @@ fn is_shown_on(placement: &Placement, of: CampaignDay) -> bool
         && day_of(placement.shown) == of.day
 }
 
-/// Whether a click was paid for.
-fn is_paid(fate: Fate) -> bool
-    ensures { result ≡ is_paid fate }
+/// Whether the price is spent: a click settled it.
+fn is_spent(fate: Fate) -> bool
+    ensures { result ≡ is_spent fate }
 {
     match fate {
         Fate::Open => false,
@@ -129,9 +129,9 @@ fn is_paid(fate: Fate) -> bool
     }
 }
 
-/// Whether the price of a placement is held at the moment.
-pub(crate) fn is_held(placement: &Placement, moment: u64) -> bool
-    ensures { result ≡ is_held moment placement.now }
+/// Whether the price of a placement is escrowed at the moment.
+pub(crate) fn is_escrowed(placement: &Placement, moment: u64) -> bool
+    ensures { result ≡ is_escrowed moment placement.now }
 {
     placement.fate == Fate::Open && moment < placement.deadline
 }

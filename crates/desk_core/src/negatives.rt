@@ -1,133 +1,126 @@
 //! The making and dropping of negatives.
 
-ghost use Rattle.std.specs.Prelude.{◌≡◌, ◌≢◌, ◌<◌, ◌-◌, ◌^◌, None, find, map, option_copied, IfOk, IfErr, OnErr, OnOk};
-ghost use Rattle.match_types.specs.Pattern.{negative_text};
+ghost use Rattle.std.specs.Prelude.{◌≡◌, ◌+◌, ◌&&◌, [], ◌∷◌, None, true, false, nat_le, is_none, find, option_map, option_copied, IfErr, IfOk, OnOk};
 ghost use Rattle.desk_types.specs.declared.call.Call.{Call};
-ghost use Rattle.desk_types.specs.Judged.{first, judged};
-ghost use Rattle.desk_types.specs.Step.{with_live};
-ghost use Rattle.desk_core.specs.Ends.{IsAccepted, IsStop};
-ghost use Rattle.desk_core.specs.TableParts.{has_no_room, is_dropped_like, is_live_like, negative_refusals};
+ghost use Rattle.desk_types.specs.declared.limits.TheConstants.{NEGATIVES_MAX};
+ghost use Rattle.desk_types.specs.Changes.{drop_of, live_again, negative_made};
+ghost use Rattle.desk_types.specs.Judged.{first, is_dropped_like, is_live_like, negative_rows, when as row_when};
+ghost use Rattle.desk_types.specs.Tables.{negative_of, negatives_of};
+ghost use Rattle.desk_core.specs.Planned.{IsFirst, IsPlanned, IsStop, listed};
 
-use crate::accounts::put;
 use crate::finds::{count_negatives, has_live_negative};
 use crate::ledger::Ledger;
-use crate::stop::Stop;
+use crate::plan::{Changes, Plan};
+use crate::stop::{Stop, when};
 use desk_types::limits::NEGATIVES_MAX;
-use desk_types::{Negative, Refusal, Reply};
+use desk_types::{Change, Negative, Refusal, Reply};
 use match_types::Pattern;
-use query_words::Text;
+use query_words::{NoMemory, Text, Twin};
 
 impl Ledger {
-    /// Why a negative is not dropped, if it is not.
-    #[tactic(auto, unfolding(desk_types::specs::Judged::refusals))]
-    fn judge_drop(&self, account: u64, key: &Text, negative: u64) -> Option<Refusal>
-        ensures { result ≡ judged self.now (Call.DropNegative account key.now negative) }
+    /// Plans the dropping of a negative.
+    #[tactic(auto, unfolding(desk_types::specs::Judged::refusals, desk_types::specs::Changes::changes, desk_types::specs::Changes::reply))]
+    pub(crate) fn plan_drop(&self, account: u64, key: &Text, negative: u64) -> Result<Plan, Stop>
+        ensures planned { IfOk result (IsPlanned self.now.state (Call.DropNegative account key.now negative)) }
+        ensures stopped { IfErr result (IsStop self.now.state (Call.DropNegative account key.now negative)) }
     {
-        if let Some(refusal) = self.judge_owner(account, key) {
-            return Some(refusal);
-        }
-        if !has_live_negative(&self.negatives, account, negative) {
-            return Some(Refusal::NoNegative);
-        }
-        None
+        self.judge_owner(account, key)?;
+        when(
+            !has_live_negative(&self.negatives, account, negative),
+            Refusal::NoNegative,
+        )?;
+        Ok(Plan {
+            changes: self.drop_of(account, negative)?,
+            reply: Reply::Done,
+        })
     }
 
-    /// Drops a negative. It takes no memory, and fails only where the call is refused.
-    #[tactic(auto, unfolding(desk_types::specs::Step::accepted))]
-    pub(crate) fn drop_negative(
-        &mut self,
-        account: u64,
-        key: &Text,
-        negative: u64,
-    ) -> Result<Reply, Stop>
-        requires { self.old.edition < 2 ^ 64 - 1 }
-        ensures accepted { IfOk result (IsAccepted self.old (Call.DropNegative account key.now negative) self.new) }
-        ensures stopped { IfErr result (IsStop self.old (Call.DropNegative account key.now negative)) }
-        ensures no_memory { IfErr result (λ stop. stop ≢ Stop.NoMemory) }
-        ensures same { OnErr result (self.new ≡ self.old) }
+    /// What drops the negative of an account and a number.
+    fn drop_of(&self, account: u64, negative: u64) -> Result<Changes, NoMemory>
+        ensures { IfOk result (λ changes. listed changes ≡ drop_of (negative_of self.now.state.tables account negative)) }
     {
-        if let Some(refusal) = self.judge_drop(account, key, negative) {
-            return Err(Stop::Refused(refusal));
+        match self.negative_of(account, negative) {
+            Some(found) => Ok(Changes::One(Change::PutNegative(with_live(found, false)?))),
+            None => Ok(Changes::Nothing),
         }
-        set_live(&mut self.negatives, account, negative, false);
-        self.edition += 1;
-        Ok(Reply::Done)
     }
 
-    /// The pattern of a negative that may be made, or why none is.
-    #[tactic(auto, unfolding(desk_types::specs::Judged::refusals))]
-    fn judge_negative(
+    /// The negative of an account and a number, if there is one.
+    fn negative_of(&self, account: u64, negative: u64) -> Option<&Negative>
+        ensures { option_copied result ≡ negative_of self.now.state.tables account negative }
+    {
+        self.negatives
+            .iter()
+            .find(|row| row.account == account && row.number == negative)
+    }
+
+    /// Plans a negative: a new one, or the dropped one of the same pattern lives again.
+    #[tactic(auto, unfolding(desk_types::specs::Judged::refusals, desk_types::specs::Changes::changes, desk_types::specs::Changes::reply))]
+    pub(crate) fn plan_negative(
         &self,
         account: u64,
         key: &Text,
         campaign: u64,
-        text: &Text,
-    ) -> Result<Pattern, Stop>
-        ensures pattern { IfOk result (λ pattern. pattern ≡ negative_text text.now) }
-        ensures accepted { OnOk result (judged self.now (Call.AddNegative account key.now campaign text.now) ≡ None) }
-        ensures stopped { IfErr result (IsStop self.now (Call.AddNegative account key.now campaign text.now)) }
-    {
-        if let Some(refusal) = self.judge_place(account, key, campaign) {
-            return Err(Stop::Refused(refusal));
-        }
-        let pattern = Pattern::read_negative(*self.negatives.allocator(), text.as_str())?;
-        if let Some(refusal) = self.judge_further(account, campaign, &pattern) {
-            return Err(Stop::Refused(refusal));
-        }
-        Ok(pattern)
-    }
-
-    /// Why a negative of this pattern is not made, if it is not.
-    fn judge_further(&self, account: u64, campaign: u64, pattern: &Pattern) -> Option<Refusal>
-        ensures { result ≡ first (negative_refusals self.now account campaign pattern.now) }
-    {
-        if let Some(there) = live_negative(&self.negatives, account, campaign, pattern) {
-            return Some(Refusal::NegativeThere(there.number));
-        }
-        if has_no_room(&self.negatives, account, campaign, pattern) {
-            return Some(Refusal::NegativesFull);
-        }
-        None
-    }
-
-    /// Makes a negative, or makes the dropped one of the same pattern live again.
-    ///
-    /// It fails where the call is refused, and for want of memory; the rows are then as they were.
-    #[tactic(auto, unfolding(desk_types::specs::Step::accepted))]
-    pub(crate) fn add_negative(
-        &mut self,
-        account: u64,
-        key: &Text,
-        campaign: u64,
         pattern: &Text,
-    ) -> Result<Reply, Stop>
-        requires { self.old.edition < 2 ^ 64 - 1 }
-        ensures accepted { IfOk result (IsAccepted self.old (Call.AddNegative account key.now campaign pattern.now) self.new) }
-        ensures stopped { IfErr result (IsStop self.old (Call.AddNegative account key.now campaign pattern.now)) }
-        ensures same { OnErr result (self.new ≡ self.old) }
+    ) -> Result<Plan, Stop>
+        ensures planned { IfOk result (IsPlanned self.now.state (Call.AddNegative account key.now campaign pattern.now)) }
+        ensures stopped { IfErr result (IsStop self.now.state (Call.AddNegative account key.now campaign pattern.now)) }
     {
-        let pattern = self.judge_negative(account, key, campaign, pattern)?;
-        let dropped = dropped_negative(&self.negatives, account, campaign, &pattern).map(
-            |row| row.number,
-        );
-        if let Some(number) = dropped {
-            set_live(&mut self.negatives, account, number, true);
-            self.edition += 1;
-            return Ok(Reply::Made(number));
+        self.judge_owner(account, key)?;
+        self.judge_campaign(account, campaign)?;
+        let negative = self.negative_made(account, campaign, pattern)?;
+        let number = negative.number;
+        Ok(Plan::one(Change::PutNegative(negative), Reply::Made(number)))
+    }
+
+    /// The row of a negative that an account asks for in a campaign that is there, or why it is refused.
+    fn negative_made(&self, account: u64, campaign: u64, text: &Text) -> Result<Negative, Stop>
+        ensures negative { IfOk result (λ row. row ≡ negative_made self.now.state.tables account campaign text.now) }
+        ensures passed { OnOk result (first (negative_rows self.now.state.tables account campaign text.now) ≡ None) }
+        ensures stopped { IfErr result (IsFirst (negative_rows self.now.state.tables account campaign text.now)) }
+    {
+        let pattern = Pattern::read_negative(*self.negatives.allocator(), text.as_str())?;
+        self.judge_same_negative(account, campaign, &pattern)?;
+        match dropped_negative(&self.negatives, account, campaign, &pattern) {
+            Some(dropped) => Ok(with_live(dropped, true)?),
+            None => self.new_negative(account, campaign, pattern),
         }
-        let number = count_negatives(&self.negatives, account) + 1;
-        put(
-            &mut self.negatives,
-            Negative {
-                account,
-                number,
-                campaign,
-                pattern,
-                live: true,
-            },
+    }
+
+    /// Judges whether the campaign has a live negative of this pattern.
+    fn judge_same_negative(
+        &self,
+        account: u64,
+        campaign: u64,
+        pattern: &Pattern,
+    ) -> Result<(), Stop>
+        ensures passed { OnOk result (find (is_live_like account campaign pattern.now) self.now.state.tables.negatives ≡ None) }
+        ensures stopped { IfErr result (IsFirst (option_map (λ n. Refusal.NegativeThere n.number)
+            (find (is_live_like account campaign pattern.now) self.now.state.tables.negatives) ∷ [])) }
+    {
+        match live_negative(&self.negatives, account, campaign, pattern) {
+            Some(there) => Err(Stop::Refused(Refusal::NegativeThere(there.number))),
+            None => Ok(()),
+        }
+    }
+
+    /// The account's next negative, or why there is no room for it.
+    fn new_negative(&self, account: u64, campaign: u64, pattern: Pattern) -> Result<Negative, Stop>
+        ensures row { IfOk result (λ row. row ≡ record { account = account; number = negatives_of self.now.state.tables account + 1; campaign = campaign; pattern = pattern; live = true }) }
+        ensures passed { OnOk result (nat_le NEGATIVES_MAX (negatives_of self.now.state.tables account) ≡ false) }
+        ensures stopped { IfErr result (IsFirst (row_when (nat_le NEGATIVES_MAX (negatives_of self.now.state.tables account)) Refusal.NegativesFull ∷ [])) }
+    {
+        when(
+            count_negatives(&self.negatives, account) >= NEGATIVES_MAX,
+            Refusal::NegativesFull,
         )?;
-        self.edition += 1;
-        Ok(Reply::Made(number))
+        Ok(Negative {
+            account,
+            number: count_negatives(&self.negatives, account) + 1,
+            campaign,
+            pattern,
+            live: true,
+        })
     }
 }
 
@@ -165,28 +158,11 @@ fn dropped_negative<'a>(
     })
 }
 
-/// Whether a negative of this pattern would be a new one, and the account has as many as it may have.
-fn has_no_room(negatives: &[Negative], account: u64, campaign: u64, pattern: &Pattern) -> bool
-    ensures { result ≡ has_no_room negatives.now account campaign pattern.now }
+/// The negative, live or dropped as is said.
+fn with_live(negative: &Negative, live: bool) -> Result<Negative, NoMemory>
+    ensures { IfOk result (λ row. row ≡ record negative.now { live = live }) }
 {
-    dropped_negative(negatives, account, campaign, pattern).is_none()
-        && count_negatives(negatives, account) >= NEGATIVES_MAX
-}
-
-/// Drops the account's negative of this number, or makes it live.
-fn set_live(negatives: &mut [Negative], account: u64, negative: u64, live: bool)
-    ensures { negatives.new ≡ map (with_live account negative live) negatives.old }
-{
-    for row in negatives.iter_mut() {
-        set_row_live(row, account, negative, live);
-    }
-}
-
-/// The same of one row.
-fn set_row_live(row: &mut Negative, account: u64, negative: u64, live: bool)
-    ensures { row.new ≡ with_live account negative live row.old }
-{
-    if row.account == account && row.number == negative {
-        row.live = live;
-    }
+    let mut row = negative.twin()?;
+    row.live = live;
+    Ok(row)
 }

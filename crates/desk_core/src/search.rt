@@ -1,50 +1,53 @@
 //! Searches.
 
-ghost use Rattle.std.specs.Prelude.{◌≡◌, ◌+◌, ◌≤◌, ℕ, Option, None, length, is_none, nat_le, All, IfOk, OnOk, IfErr, OnErr, IfSome};
+ghost use Rattle.std.specs.Prelude.{◌≡◌, ◌+◌, ◌≤◌, ℕ, Option, None, length, is_none, map, nat_le, All, IfOk, OnOk, IfErr, IfSome};
 ghost use Rattle.query_words.specs.Limits.{IsWithinLimits};
 ghost use Rattle.query_words.specs.Words.{words_of};
+ghost use Rattle.desk_types.specs.Changes.{placements_for};
 ghost use Rattle.desk_types.specs.Eligible.{entrants_for};
-ghost use Rattle.desk_types.specs.Judged.{is_bad_places, judged, page_of, places_of};
+ghost use Rattle.desk_types.specs.Judged.{is_bad_places, judged, places_of};
 ghost use Rattle.desk_types.specs.SettingsValue.{IsPlaces};
 ghost use Rattle.desk_types.specs.State.{State};
-ghost use Rattle.desk_types.specs.Step.{all_placed};
+ghost use Rattle.desk_types.specs.Sound.{IsSound};
 ghost use Rattle.rank_core.specs.Ranked.{ranked};
-ghost use Rattle.desk_core.specs.Ends.{IsAccepted, IsStop};
-ghost use Rattle.desk_core.specs.Sound.{HasLine, IsSound};
+ghost use Rattle.desk_core.specs.Planned.{IsPlanned, IsStop};
+ghost use Rattle.desk_core.specs.Shown.{HasLine};
 
 use crate::ledger::Ledger;
+use crate::plan::{Changes, Plan};
 use crate::stop::Stop;
 use arrayvec::ArrayVec;
 use desk_types::limits::PLACES_MAX;
-use desk_types::{Call, Field, Placement, Refusal, Reply};
+use desk_types::{Call, Change, Field, Placement, Refusal, Reply};
 use query_words::{List, Text, Words, WordsError, words};
 use rank_core::{Ranked, page_of};
 use std::alloc::{AllocError, Global};
 
 impl Ledger {
-    /// A search: each place of the page for the text, of 1 to 8 places or as many as the settings
+    /// Plans a search: each place of the page for the text, of 1 to 8 places or as many as the settings
     /// have, gets a placement.
-    ///
-    /// `Err` has the first refusal that holds, or comes for want of memory, and changes nothing.
-    pub(crate) fn search(&mut self, text: &Text, places: Option<u64>) -> Result<Reply, Stop>
-        requires sound { IsSound self.old }
-        ensures accepted { IfOk result (IsAccepted self.old (Call.Search text.now places) self.new) }
-        ensures stopped { IfErr result (IsStop self.old (Call.Search text.now places)) }
-        ensures same { OnErr result (self.new ≡ self.old) }
+    #[tactic(auto, unfolding(desk_types::specs::Changes::changes, desk_types::specs::Changes::reply))]
+    pub(crate) fn plan_search(&self, text: &Text, places: Option<u64>) -> Result<Plan, Stop>
+        requires sound { IsSound self.now.state }
+        ensures planned { IfOk result (IsPlanned self.now.state (Call.Search text.now places)) }
+        ensures stopped { IfErr result (IsStop self.now.state (Call.Search text.now places)) }
     {
         let placements = self.placements_for(text, places)?;
         let spots = self.spots(&placements)?;
-        self.placements.extend_from_slice(&placements)?;
-        Ok(Reply::Page(List::from_vec(spots)))
+        let changes = put_each(*self.lines.allocator(), &placements)?;
+        Ok(Plan {
+            changes: Changes::Several(List::from_vec(changes)),
+            reply: Reply::Page(List::from_vec(spots)),
+        })
     }
 
     /// The placements that a search puts.
     fn placements_for(&self, text: &Text, places: Option<u64>) -> Result<Vec<Placement>, Stop>
-        requires sound { IsSound self.now }
-        ensures not_refused { OnOk result (judged self.now (Call.Search text.now places) ≡ None) }
-        ensures placements { IfOk result (λ new. new.items ≡ all_placed self.now (entrants_for self.now (words_of text.now)) (length self.now.placements + 1) (page_of self.now text.now places)) }
-        ensures lines { IfOk result (λ new. All (HasLine self.now) new.items) }
-        ensures stopped { IfErr result (IsStop self.now (Call.Search text.now places)) }
+        requires sound { IsSound self.now.state }
+        ensures not_refused { OnOk result (judged self.now.state (Call.Search text.now places) ≡ None) }
+        ensures placements { IfOk result (λ new. new.items ≡ placements_for self.now.state text.now places) }
+        ensures lines { IfOk result (λ new. All (HasLine self.now.state.tables) new.items) }
+        ensures stopped { IfErr result (IsStop self.now.state (Call.Search text.now places)) }
     {
         let query = words_of(*self.lines.allocator(), text)?;
         let Some(count) = self.places_of(places) else {
@@ -61,7 +64,7 @@ impl Ledger {
     /// out of range.
     fn places_of(&self, places: Option<u64>) -> Option<u64>
         ensures bad { is_none result ≡ is_bad_places places }
-        ensures value { IfSome result (λ count. count ≡ places_of self.now places) }
+        ensures value { IfSome result (λ count. count ≡ places_of self.now.state places) }
         ensures in_range { IfSome result IsPlaces }
     {
         match places {
@@ -73,9 +76,9 @@ impl Ledger {
 
     /// The page for the words of a query, each entrant with the one next below it.
     fn page(&self, query: &Words, places: u64) -> Result<ArrayVec<Ranked, 8>, AllocError>
-        requires sound { IsSound self.now }
+        requires sound { IsSound self.now.state }
         requires places { IsPlaces places }
-        ensures { IfOk result (λ page. page.items ≡ ranked (entrants_for self.now query.now) places) }
+        ensures { IfOk result (λ page. page.items ≡ ranked (entrants_for self.now.state query.now) places) }
     {
         let ads = self.eligible_ads(query)?;
         page_of(*self.lines.allocator(), &ads, places)
@@ -84,10 +87,21 @@ impl Ledger {
     /// Whether there may be this many more placements.
     fn has_room(&self, more: usize) -> bool
         requires { more ≤ PLACES_MAX }
-        ensures { result ≡ nat_le (length self.now.placements + more) self.now.settings.placements }
+        ensures { result ≡ nat_le (length self.now.state.tables.placements + more) self.now.state.settings.placements }
     {
         (self.placements.len() + more) as u64 <= self.settings.placements()
     }
+}
+
+/// The changes that put these placements, in order.
+fn put_each(alloc: Global, placements: &[Placement]) -> Result<Vec<Change>, AllocError>
+    ensures { IfOk result (λ changes. changes.items ≡ map Change.PutPlacement placements.now) }
+{
+    let mut changes = Vec::with_capacity(alloc, placements.len())?;
+    for placement in placements {
+        changes.push(Change::PutPlacement(*placement))?;
+    }
+    Ok(changes)
 }
 
 /// The words of a query, or why it is refused.

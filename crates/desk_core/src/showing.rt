@@ -3,10 +3,9 @@
 ghost use Rattle.std.specs.Prelude.{◌≡◌, ◌+◌, ◌≤◌, List, length, map, All, Contains, IfOk};
 ghost use Rattle.desk_types.specs.AdValue.{AdValue};
 ghost use Rattle.desk_types.specs.Page.{AreOfDifferentAccounts, next_below, place as the_place};
-ghost use Rattle.desk_types.specs.Step.{all_placed, placed, spot_of};
+ghost use Rattle.desk_types.specs.Changes.{all_placed, placed, spot_of};
 ghost use Rattle.desk_types.specs.declared.limits.TheConstants.{MOMENT_MAX};
-ghost use Rattle.desk_core.specs.Shown.{AreRankedFrom, CanBePriced};
-ghost use Rattle.desk_core.specs.Sound.{HasLine};
+ghost use Rattle.desk_core.specs.Shown.{AreRankedFrom, CanBePriced, HasLine};
 
 use crate::ledger::Ledger;
 use desk_types::limits::CLICK_WINDOW;
@@ -19,9 +18,9 @@ use std::alloc::AllocError;
 impl Ledger {
     /// The placements of the ads of a page, numbered from the next number on.
     pub(crate) fn placed(&self, page: &[Ranked]) -> Result<Vec<Placement>, AllocError>
-        requires moment { self.now.moment ≤ MOMENT_MAX }
-        requires priced { All (CanBePriced self.now) page.now }
-        ensures { IfOk result (λ new. (entered : List AdValue) → AreRankedFrom entered page.now → new.items ≡ all_placed self.now entered (length self.now.placements + 1) (map (λ r. r.ad) page.now)) }
+        requires moment { self.now.state.moment ≤ MOMENT_MAX }
+        requires priced { All (CanBePriced self.now.state) page.now }
+        ensures { IfOk result (λ new. (entered : List AdValue) → AreRankedFrom entered page.now → new.items ≡ all_placed self.now.state entered (length self.now.state.tables.placements + 1) (map (λ r. r.ad) page.now)) }
     {
         let first = self.placements.len() as u64 + 1;
         let mut placements = Vec::with_capacity(*self.lines.allocator(), page.len())?;
@@ -34,9 +33,9 @@ impl Ledger {
 
     /// The placement of an ad, with this number and this place.
     fn placement(&self, number: u64, place: u64, ranked: &Ranked) -> Placement
-        requires moment { self.now.moment ≤ MOMENT_MAX }
-        requires priced { CanBePriced self.now ranked.now }
-        ensures { (entered : List AdValue) → AreOfDifferentAccounts entered → Contains entered ranked.now.ad → next_below entered ranked.now.ad ≡ ranked.now.next → the_place entered ranked.now.ad ≡ place → result ≡ placed self.now entered number ranked.now.ad }
+        requires moment { self.now.state.moment ≤ MOMENT_MAX }
+        requires priced { CanBePriced self.now.state ranked.now }
+        ensures { (entered : List AdValue) → AreOfDifferentAccounts entered → Contains entered ranked.now.ad → next_below entered ranked.now.ad ≡ ranked.now.next → the_place entered ranked.now.ad ≡ place → result ≡ placed self.now.state entered number ranked.now.ad }
     {
         let ad = &ranked.ad;
         Placement {
@@ -60,8 +59,8 @@ impl Ledger {
 
     /// What the page shows of these placements.
     pub(crate) fn spots(&self, placements: &[Placement]) -> Result<Vec<Spot>, AllocError>
-        requires { All (HasLine self.now) placements.now }
-        ensures { IfOk result (λ spots. spots.items ≡ map (spot_of self.now) placements.now) }
+        requires { All (HasLine self.now.state.tables) placements.now }
+        ensures { IfOk result (λ spots. spots.items ≡ map (spot_of self.now.state.tables) placements.now) }
     {
         let mut spots = Vec::with_capacity(*self.lines.allocator(), placements.len())?;
         for placement in placements {
@@ -72,8 +71,8 @@ impl Ledger {
 
     /// What the page shows of a placement.
     fn spot_of(&self, placement: &Placement) -> Result<Spot, AllocError>
-        requires { HasLine self.now placement.now }
-        ensures { IfOk result (λ spot. spot ≡ spot_of self.now placement.now) }
+        requires { HasLine self.now.state.tables placement.now }
+        ensures { IfOk result (λ spot. spot ≡ spot_of self.now.state.tables placement.now) }
     {
         let line = self.line_there(placement.account, placement.line);
         Ok(Spot {

@@ -18,7 +18,7 @@ fn an_ad_competes_while_its_bid_is_free(rt: HostRuntime) -> Result<(), Fail> {
 }
 
 #[test]
-fn a_price_is_held_up_to_the_deadline(rt: HostRuntime) -> Result<(), Fail> {
+fn a_price_is_escrowed_up_to_the_deadline(rt: HostRuntime) -> Result<(), Fail> {
     // Of a budget of 12, two prices of 5 leave no room for a bid of 7.
     check_new(
         &rt,

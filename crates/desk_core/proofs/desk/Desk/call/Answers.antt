@@ -2,29 +2,41 @@ use Rattle.std.proofs.Common.{◌≡◌, false, Ok, subst, ap, ◌∙◌, arith}
 use Rattle.desk_types.specs.declared.entry.Outcome.TheVariants.{Answered}
 use Rattle.desk_types.specs.Journal.{is_full}
 use Rattle.desk_types.specs.Serving.{with_entry}
+use Rattle.desk_types.specs.Step.{Reached}
 use Rattle.desk_core.specs.DeskValue.{Answers, DeskValue}
 use Rattle.desk_core.proofs.Desks.{answers_ok, edition_of_rows, reached_more, sound_rows}
+use Rattle.desk_core.proofs.Moments.{edition_now, sound_now, step_from}
 use Rattle.desk_core.proofs.desk.Desk.call.Goals as goal
 
-pub step-requires-clause-sound : goal.step-requires-clause-sound
-step-requires-clause-sound c = sound_rows c.self.inside.ledger c.self.inside.journal c.self.invariant
+pub answer-requires-clause-sound : goal.answer-requires-clause-sound
+answer-requires-clause-sound c =
+    sound_now c.self.inside.ledger.state c.go_to-before.new.self.state c.args.moment c.go_to-before.ensures.state (sound_rows c.self.inside.ledger.state c.self.inside.journal c.self.invariant)
 
-pub step-requires-clause-edition : goal.step-requires-clause-edition
-step-requires-clause-edition c = omega (arith, edition_of_rows c.self.inside.ledger c.self.inside.journal c.self.invariant, c.fault_of.ensures.few)
+pub answer-requires-clause-edition : goal.answer-requires-clause-edition
+answer-requires-clause-edition c =
+    edition_now c.self.inside.ledger.state c.go_to-before.new.self.state c.args.moment _ c.go_to-before.ensures.state
+    (omega (arith, edition_of_rows c.self.inside.ledger.state c.self.inside.journal c.self.invariant, c.fault_of.ensures.few))
 
 pub invariant_of-self-2 : goal.invariant_of-self-2
 invariant_of-self-2 c =
+    let S = c.self.inside.ledger.state in
     let before = c.self.inside.journal in
     let room : is_full before.settings before.entries c.args.call ≡ false = c.in_default.ensures.full in
-    reached_more c.self.inside.ledger c.step.new.self before c.put.new.self c.args.caller c.args.moment c.args.call c.self.invariant room c.in-Ok.ensures.state
-    (c.put.ensures.settings ∙ c.reserve.ensures.settings)
-    (c.put.ensures.entries ∙ ap (λ es. with_entry c.args.caller es c.args.moment c.args.call Answered) c.reserve.ensures.entries)
+    let stepped = step_from S c.go_to-before.new.self.state c.args.moment c.args.call c.go_to-before.ensures.state in
+    reached_more S c.answer.new.ledger.state before c.put.new.self c.args.caller c.args.moment c.args.call c.self.invariant room
+    (c.in-Ok.ensures.state ∙ ap (λ (r : Reached). r.state) stepped)
+    (c.put.ensures.settings ∙ c.answer.ensures.settings)
+    (c.put.ensures.entries ∙ ap (λ es. with_entry c.args.caller es c.args.moment c.args.call Answered) c.answer.ensures.entries)
 
 pub returns-clause-answers : goal.returns-clause-answers
 returns-clause-answers c =
+    let S = c.self.inside.ledger.state in
     let before = c.self.inside.journal in
     let room : is_full before.settings before.entries c.args.call ≡ false = c.in_default.ensures.full in
+    let stepped = step_from S c.go_to-before.new.self.state c.args.moment c.args.call c.go_to-before.ensures.state in
     subst (λ (d : DeskValue). Answers c.args.caller d c.args.moment c.args.call (Ok c.in-Ok.reply) (record { settings = c.put.new.self.settings; log = c.put.new.self.entries; spare = c.put.new.self.spare })) c.self.view_is
-    (answers_ok c.self.inside.ledger c.step.new.self before c.put.new.self c.args.caller c.args.moment c.args.call c.in-Ok.reply c.self.invariant room c.in-Ok.ensures.reply c.in-Ok.ensures.state
-    (c.put.ensures.settings ∙ c.reserve.ensures.settings)
-    (c.put.ensures.entries ∙ ap (λ es. with_entry c.args.caller es c.args.moment c.args.call Answered) c.reserve.ensures.entries))
+    (answers_ok S c.answer.new.ledger.state before c.put.new.self c.args.caller c.args.moment c.args.call c.in-Ok.reply c.self.invariant room
+    (c.in-Ok.ensures.reply ∙ ap (λ (r : Reached). r.reply) stepped)
+    (c.in-Ok.ensures.state ∙ ap (λ (r : Reached). r.state) stepped)
+    (c.put.ensures.settings ∙ c.answer.ensures.settings)
+    (c.put.ensures.entries ∙ ap (λ es. with_entry c.args.caller es c.args.moment c.args.call Answered) c.answer.ensures.entries))

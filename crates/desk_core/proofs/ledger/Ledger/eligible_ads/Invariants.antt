@@ -3,4 +3,4 @@ use Rattle.desk_types.specs.Eligible.{ad_of, is_eligible}
 use Rattle.desk_core.proofs.ledger.Ledger.eligible_ads.Given as goal
 
 abbrev pub invariant-loop-line : goal.invariant-loop-line
-invariant-loop-line l = l.ads.items ≡ map ad_of (filter (is_eligible l.self l.query) (take l.line-index l.self.lines))
+invariant-loop-line l = l.ads.items ≡ map ad_of (filter (is_eligible l.self.state l.query) (take l.line-index l.self.state.tables.lines))

@@ -11,5 +11,5 @@ returns-clause-sum c =
     let ledger = c.self.inside in
     c.charged.ensures.sum
     ∙ ap (λ placements. sum_by (λ p. p.price) (filter (is_charged of.account of.campaign of.day ledger.moment) placements)) c.deref.ensures.value
-    ∙ sym (used-charged (the_view ledger) of.account of.campaign of.day)
-    ∙ ap (λ S. used S of.account of.campaign of.day) c.self.view_is
+    ∙ sym (used-charged (the_view ledger).state of.account of.campaign of.day)
+    ∙ ap (λ V. used V.state of.account of.campaign of.day) c.self.view_is

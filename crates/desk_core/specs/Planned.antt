@@ -1,0 +1,34 @@
+-- What the judgement on a call gives: the changes and the reply of an accepted call, or why it stops.
+use Rattle.std.specs.Prelude.{◌≡◌, List, [], ◌∷◌, Option, None, Some, ⊤}
+use Rattle.desk_types.specs.declared.call.Call.{Call}
+use Rattle.desk_types.specs.declared.refusal.Refusal.{Refusal}
+use Rattle.desk_types.specs.declared.tables.Change.{Change}
+use Rattle.desk_types.specs.Changes.{changes, reply}
+use Rattle.desk_types.specs.Judged.{first, judged, refusals}
+use Rattle.desk_types.specs.State.{State}
+use Rattle.desk_core.specs.declared.plan.Changes.{Changes}
+use Rattle.desk_core.specs.declared.plan.Changes.TheVariants.{Nothing, One, Several}
+use Rattle.desk_core.specs.declared.plan.Plan.{Plan}
+use Rattle.desk_core.specs.declared.stop.Stop.{Stop}
+use Rattle.desk_core.specs.declared.stop.Stop.TheVariants.{Refused, NoMemory}
+
+-- the changes, in order
+abbrev pub listed : Changes → List Change
+listed Nothing = []
+listed (One change) = change ∷ []
+listed (Several list) = list
+
+-- no refusal of the call holds, and the changes and the reply are those of the accepted call
+pub record IsPlanned (S : State) (call : Call) (plan : Plan) : Type 0 where
+  pub not_refused : judged S call ≡ None
+  pub changed : listed plan.changes ≡ changes S call
+  pub replied : plan.reply ≡ reply S call
+
+-- a refusal is the first of the table that holds; want of memory comes freely
+abbrev pub IsFirst : List (Option Refusal) → Stop → Type 0
+IsFirst table (Refused refusal) = first table ≡ Some refusal
+IsFirst table NoMemory = ⊤
+
+-- the call stops by the first of its refusals that holds, or for want of memory
+abbrev pub IsStop : State → Call → Stop → Type 0
+IsStop S call stop = IsFirst (refusals S call) stop

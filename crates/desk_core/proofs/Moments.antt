@@ -4,7 +4,7 @@ use Rattle.desk_types.specs.declared.call.Call.{Call}
 use Rattle.desk_types.specs.Judged.{judged}
 use Rattle.desk_types.specs.Sound.{IsSound}
 use Rattle.desk_types.specs.State.{State}
-use Rattle.desk_types.specs.Step.{Reached, answered, at_moment, step}
+use Rattle.desk_types.specs.Step.{answered, at_moment, step}
 use Rattle.desk_types.proofs.Sound.{sound_later}
 
 -- what is answered at the call's moment is the step

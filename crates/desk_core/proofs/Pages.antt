@@ -1,13 +1,11 @@
 -- The page of a sound desk can be priced and placed, and its lines are there.
-use Rattle.std.proofs.Common.{◌≡◌, ℕ, zero, suc, ◌+◌, ◌<◌, Bool, true, ◌==◌, ◌&&◌, inl, inr, List, [], ◌∷◌, Option, None, Some, find, is_some, map, filter, length, get_or, refl, sym, ap, subst, ◌∙◌, arith}
+use Rattle.std.proofs.Common.{◌≡◌, ℕ, zero, suc, ◌+◌, ◌<◌, true, inl, inr, List, [], ◌∷◌, Option, None, Some, is_some, map, length, get_or, refl, sym, ap, ◌∙◌, arith}
 use Rattle.std.specs.List.{All, Contains, slice_get}
 use Rattle.std.specs.Option.{IfSome}
-use Rattle.std.proofs.lemmas.Bool.{cases_Bool, cond-true, cond-false, and_from, eq-eqb}
 use Rattle.std.proofs.lemmas.List.{length-map}
-use Rattle.std.proofs.lemmas.List.Elements.{All-nil, All-cons, All-head, All-tail, All-append, All-map, Contains-get_or}
-use Rattle.desk_types.specs.declared.rows.Line.{Line}
-use Rattle.desk_types.specs.AdValue.{AdValue, IsInRange}
-use Rattle.desk_types.specs.Eligible.{ad_of, eligible_ads, entrants_for, is_eligible}
+use Rattle.std.proofs.lemmas.List.Elements.{All-nil, All-cons, All-map, Contains-get_or}
+use Rattle.desk_types.specs.AdValue.{AdValue}
+use Rattle.desk_types.specs.Eligible.{entrants_for}
 use Rattle.desk_types.specs.Laws.{AreFirstPlaces}
 use Rattle.desk_types.specs.Page.{next_below, page}
 use Rattle.desk_types.specs.Changes.{all_placed}

@@ -1,12 +1,11 @@
 -- The refusals of a search, in order.
-use Rattle.std.proofs.Common.{◌≡◌, ℕ, ◌+◌, ◌<◌, ◌≤◌, Bool, true, false, Option, None, Some, List, [], ◌∷◌, length, refl, ◌∙◌, arith}
+use Rattle.std.proofs.Common.{◌≡◌, ℕ, ◌+◌, ◌<◌, ◌≤◌, true, false, Option, None, Some, List, [], ◌∷◌, length, ◌∙◌, arith}
 use Rattle.std.specs.Prelude.{nat_le, nat_lt}
 use Rattle.std.proofs.lemmas.Bool.Decides.{nat_tests}
 use Rattle.query_words.specs.declared.cut.TheConstants.{QUERY_BYTES, QUERY_WORDS}
 use Rattle.query_words.specs.Limits.{IsWithinLimits}
 use Rattle.query_words.specs.Words.{words_of}
 use Rattle.desk_types.specs.declared.call.Call.TheVariants.{Search}
-use Rattle.desk_types.specs.declared.refusal.Refusal.{Refusal}
 use Rattle.desk_types.specs.declared.refusal.Refusal.TheVariants.{BadField, PlacementsFull, QueryTooLong, QueryTooMany}
 use Rattle.desk_types.specs.declared.refusal.Field.TheVariants as field
 use Rattle.desk_types.specs.Judged.{first, is_bad_places, judged, page_of, refusals, when}

@@ -1,4 +1,4 @@
-use Rattle.std.proofs.Common.{◌≡◌, ◌<◌, true, false, length, subst, sym, ◌∙◌, arith}
+use Rattle.std.proofs.Common.{◌≡◌, true, false, subst, sym, ◌∙◌, arith}
 use Rattle.std.specs.List.Sorted.{IsPartitionPoint}
 use Rattle.desk_types.specs.Keys.{is_less_key}
 use Rattle.desk_core.proofs.Places.{IsBehind, IsPlace, behind_from, behind_last, place_from, put-inserts, put-replaces}

@@ -1,4 +1,4 @@
-use Rattle.std.proofs.Common.{map, ap, ◌∙◌, arith}
+use Rattle.std.proofs.Common.{map, ap, ◌∙◌}
 use Rattle.std.proofs.lemmas.List.{take_all}
 use Rattle.desk_types.specs.declared.tables.Change.TheVariants.{PutPlacement}
 use Rattle.desk_core.proofs.search.put_each.Goals as goal

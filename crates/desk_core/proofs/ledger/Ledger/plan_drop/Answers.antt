@@ -1,4 +1,4 @@
-use Rattle.std.proofs.Common.{◌≡◌, true, not, [], ◌∷◌, sym, ap, ◌∙◌, rules}
+use Rattle.std.proofs.Common.{◌≡◌, true, not, [], ◌∷◌, rules}
 use Rattle.std.proofs.lemmas.Result.{err_from_is_err_and}
 use Rattle.desk_types.specs.declared.refusal.Refusal.TheVariants.{NoNegative}
 use Rattle.desk_types.specs.Judged.{has_live_negative, owner_rows, refusals, when}

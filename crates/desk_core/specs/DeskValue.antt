@@ -25,7 +25,9 @@ abbrev pub state : DeskValue → State
 state d = run (opening d) d.log
 
 -- a call ends on a desk as on the ledger, with no entry of others; a fault leaves the journal, which stays legal
-pub record Answers (caller : ℕ) (before : DeskValue) (moment : ℕ) (call : Call) (result : Result Reply Fault) (after : DeskValue) : Type 0 where
+pub record Answers
+    (caller : ℕ) (before : DeskValue) (moment : ℕ) (call : Call) (result : Result Reply Fault) (after : DeskValue)
+    : Type 0 where
   pub ends : Ends caller (opening before) before.log moment call result after.log
   pub legal : IsLegal before.settings after.log
   pub no_fault : HasNoFault after.log

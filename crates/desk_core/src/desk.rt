@@ -59,9 +59,11 @@ impl Desk {
     pub fn call(&mut self, caller: u64, moment: u64, call: Call) -> Result<Reply, Fault>
         ensures settings { self.new.settings ≡ self.old.settings }
         ensures answers { Answers caller self.old moment call result self.new }
-        ensures full_first { is_full self.old.settings self.old.log call ≡ true → result ≡ Err (Fault.JournalFull (length self.old.log) (bytes_of self.old.log)) }
+        ensures full_first { is_full self.old.settings self.old.log call ≡ true
+            → result ≡ Err (Fault.JournalFull (length self.old.log) (bytes_of self.old.log)) }
         ensures no_keeper { IsSureResult result }
-        ensures click { (placement : ℕ) → call ≡ Call.Click placement → 1 ≤ self.old.spare → result ≢ Err Fault.NoMemory }
+        ensures click { (placement : ℕ) → call ≡ Call.Click placement → 1 ≤ self.old.spare
+            → result ≢ Err Fault.NoMemory }
         ensures spare { length self.old.log + self.old.spare ≤ length self.new.log + self.new.spare }
     {
         if let Some(fault) = self.journal.fault_of(&call) {
@@ -102,8 +104,10 @@ impl Desk {
 fn answer(ledger: &mut Ledger, journal: &mut Journal, call: &Call) -> Result<Reply, AllocError>
     requires sound { IsSound ledger.old.state }
     requires edition { ledger.old.state.edition < 2 ^ 64 - 1 }
-    ensures state { OnOk result (ledger.new.state ≡ (answered ledger.old.state call.now (judged ledger.old.state call.now)).state) }
-    ensures reply { IfOk result (λ reply. reply ≡ (answered ledger.old.state call.now (judged ledger.old.state call.now)).reply) }
+    ensures state { let S = ledger.old.state in
+        OnOk result (ledger.new.state ≡ (answered S call.now (judged S call.now)).state) }
+    ensures reply { let S = ledger.old.state in
+        IfOk result (λ reply. reply ≡ (answered S call.now (judged S call.now)).reply) }
     ensures same { OnErr result (ledger.new.state ≡ ledger.old.state) }
     ensures room { OnOk result (1 ≤ journal.new.spare) }
     ensures spare { journal.old.spare ≤ journal.new.spare }

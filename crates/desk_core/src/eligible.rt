@@ -117,14 +117,17 @@ fn is_active_account(account: &Account, line: &Line) -> bool
 
 /// Whether a campaign is that of the line, and on.
 fn is_active_campaign(campaign: &Campaign, line: &Line) -> bool
-    ensures { result ≡ (campaign.now.account == line.now.account && (campaign.now.number == line.now.campaign && campaign.now.on)) }
+    ensures { result ≡ (campaign.now.account == line.now.account
+        && (campaign.now.number == line.now.campaign && campaign.now.on)) }
 {
     campaign.account == line.account && campaign.number == line.campaign && campaign.on
 }
 
 /// Whether a negative is a live one of the line's campaign that matches the query.
 fn keeps_out(negative: &Negative, query: &Words, line: &Line) -> bool
-    ensures { result ≡ (negative.now.account == line.now.account && (negative.now.campaign == line.now.campaign && (negative.now.live && is_matched negative.now.pattern query.now))) }
+    ensures { result ≡ (negative.now.account == line.now.account
+        && (negative.now.campaign == line.now.campaign
+        && (negative.now.live && is_matched negative.now.pattern query.now))) }
 {
     negative.account == line.account
         && negative.campaign == line.campaign

@@ -28,7 +28,11 @@ impl Model for Journal {
 
     ghost Value = { JournalValue };
 
-    ghost view = { λ j. record { settings = j.settings; entries = j.entries.items; spare = vec_capacity j.entries - vec_len j.entries } };
+    ghost view = { λ j. record {
+      settings = j.settings;
+      entries = j.entries.items;
+      spare = vec_capacity j.entries - vec_len j.entries;
+    } };
 
     ghost invariant = { λ j. IsLegalJournal j.settings j.entries.items j.bytes };
 }
@@ -56,7 +60,9 @@ impl Journal {
     /// The fault of a call for which there is no room, or `None` where there is room.
     pub fn fault_of(&self, call: &Call) -> Option<Fault>
         ensures few { length self.now.entries ≤ JOURNAL_MAX }
-        ensures full { MatchOption result (is_full self.now.settings self.now.entries call.now ≡ false) (λ fault. (is_full self.now.settings self.now.entries call.now ≡ true) × (fault ≡ Fault.JournalFull (length self.now.entries) (bytes_of self.now.entries))) }
+        ensures full { MatchOption result (is_full self.now.settings self.now.entries call.now ≡ false)
+            (λ fault. (is_full self.now.settings self.now.entries call.now ≡ true)
+            × (fault ≡ Fault.JournalFull (length self.now.entries) (bytes_of self.now.entries))) }
     {
         if !self.is_full(call) {
             return None;
@@ -113,7 +119,8 @@ impl Journal {
 
 /// The number of the caller's last entry, or 0 where it has none.
 fn last_number(entries: &[Entry], caller: u64) -> u64
-    requires { map (λ e. e.number) (filter (λ e. e.caller == caller) entries.now) ≡ range_with_len 1 (entries_of caller entries.now) }
+    requires { map (λ e. e.number) (filter (λ e. e.caller == caller) entries.now)
+        ≡ range_with_len 1 (entries_of caller entries.now) }
     ensures { result ≡ entries_of caller entries.now }
 {
     let mut rest = entries;

@@ -7,6 +7,7 @@ ghost use Rattle.desk_types.specs.Step.{at_moment};
 ghost use Rattle.desk_types.specs.Sound.{IsSound};
 ghost use Rattle.desk_core.specs.Planned.{IsPlanned, IsStop};
 
+use crate::lines::Asked;
 use crate::plan::Plan;
 use crate::stop::Stop;
 use desk_types::limits::MOMENT_MAX;
@@ -125,7 +126,16 @@ impl Ledger {
                 pattern,
                 headline,
                 link,
-            } => self.plan_line(*account, key, *campaign, *bid, pattern, headline, link),
+            } => {
+                let asked = Asked {
+                    campaign: *campaign,
+                    bid: *bid,
+                    pattern,
+                    headline,
+                    link,
+                };
+                self.plan_line(*account, key, &asked)
+            }
             Call::AddNegative {
                 account,
                 key,

@@ -52,7 +52,8 @@ impl Ledger {
 
 /// The amount of the campaign's setting of the latest day up to this one, or 0 where it has none.
 fn latest_amount(budgets: &[BudgetSet], of: CampaignDay) -> u64
-    ensures { result ≡ unwrap_or (option_map (λ b. b.amount) (find (λ b. is_set_by of.account of.campaign of.day b && is_latest budgets.now of.account of.campaign of.day b) budgets.now)) 0 }
+    ensures { result ≡ unwrap_or (option_map (λ b. b.amount) (find (λ b. is_set_by of.account of.campaign of.day b
+        && is_latest budgets.now of.account of.campaign of.day b) budgets.now)) 0 }
 {
     budgets
         .iter()
@@ -76,14 +77,16 @@ fn is_latest(setting: &BudgetSet, budgets: &[BudgetSet], of: CampaignDay) -> boo
 
 /// Whether some setting of the campaign up to the day is of a later day than this one.
 fn is_replaced(setting: &BudgetSet, budgets: &[BudgetSet], of: CampaignDay) -> bool
-    ensures { result ≡ list_any (λ other. is_set_by of.account of.campaign of.day other && nat_lt (the_day_of setting.now.at) (the_day_of other.at)) budgets.now }
+    ensures { result ≡ list_any (λ other. is_set_by of.account of.campaign of.day other
+        && nat_lt (the_day_of setting.now.at) (the_day_of other.at)) budgets.now }
 {
     budgets.iter().any(|other| replaces(other, setting, of))
 }
 
 /// Whether a setting of the campaign up to the day is of a later day than another one.
 fn replaces(other: &BudgetSet, setting: &BudgetSet, of: CampaignDay) -> bool
-    ensures { result ≡ (is_set_by of.account of.campaign of.day other.now && nat_lt (the_day_of setting.now.at) (the_day_of other.now.at)) }
+    ensures { result ≡ (is_set_by of.account of.campaign of.day other.now
+        && nat_lt (the_day_of setting.now.at) (the_day_of other.now.at)) }
 {
     is_set_by(other, of) && day_of(setting.at) < day_of(other.at)
 }
@@ -91,7 +94,8 @@ fn replaces(other: &BudgetSet, setting: &BudgetSet, of: CampaignDay) -> bool
 /// The prices, added up, of the placements of the campaign that were shown on the day and are
 /// spent, or escrowed at the moment.
 fn charged(placements: &[Placement], of: CampaignDay, moment: u64) -> u128
-    ensures sum { result ≡ sum_by (λ p. p.price) (filter (is_charged of.account of.campaign of.day moment) placements.now) }
+    ensures sum { result
+        ≡ sum_by (λ p. p.price) (filter (is_charged of.account of.campaign of.day moment) placements.now) }
     ensures fits { result < 2 ^ 127 }
 {
     let mut sum = 0;

@@ -37,7 +37,8 @@ impl Ledger {
 
     /// What drops the negative of an account and a number.
     fn drop_of(&self, account: u64, negative: u64) -> Result<Changes, NoMemory>
-        ensures { IfOk result (λ changes. listed changes ≡ drop_of (negative_of self.now.state.tables account negative)) }
+        ensures { IfOk result (λ changes.
+            listed changes ≡ drop_of (negative_of self.now.state.tables account negative)) }
     {
         match self.negative_of(account, negative) {
             Some(found) => Ok(Changes::One(Change::PutNegative(with_live(found, false)?))),
@@ -63,7 +64,8 @@ impl Ledger {
         campaign: u64,
         pattern: &Text,
     ) -> Result<Plan, Stop>
-        ensures planned { IfOk result (IsPlanned self.now.state (Call.AddNegative account key.now campaign pattern.now)) }
+        ensures planned { IfOk result
+            (IsPlanned self.now.state (Call.AddNegative account key.now campaign pattern.now)) }
         ensures stopped { IfErr result (IsStop self.now.state (Call.AddNegative account key.now campaign pattern.now)) }
     {
         self.judge_owner(account, key)?;
@@ -94,7 +96,8 @@ impl Ledger {
         campaign: u64,
         pattern: &Pattern,
     ) -> Result<(), Stop>
-        ensures passed { OnOk result (find (is_live_like account campaign pattern.now) self.now.state.tables.negatives ≡ None) }
+        ensures passed { OnOk result
+            (find (is_live_like account campaign pattern.now) self.now.state.tables.negatives ≡ None) }
         ensures stopped { IfErr result (IsFirst (option_map (λ n. Refusal.NegativeThere n.number)
             (find (is_live_like account campaign pattern.now) self.now.state.tables.negatives) ∷ [])) }
     {
@@ -106,9 +109,16 @@ impl Ledger {
 
     /// The account's next negative, or why there is no room for it.
     fn new_negative(&self, account: u64, campaign: u64, pattern: Pattern) -> Result<Negative, Stop>
-        ensures row { IfOk result (λ row. row ≡ record { account = account; number = negatives_of self.now.state.tables account + 1; campaign = campaign; pattern = pattern; live = true }) }
+        ensures row { IfOk result (λ row. row ≡ record {
+          account = account;
+          number = negatives_of self.now.state.tables account + 1;
+          campaign = campaign;
+          pattern = pattern;
+          live = true;
+        }) }
         ensures passed { OnOk result (nat_le NEGATIVES_MAX (negatives_of self.now.state.tables account) ≡ false) }
-        ensures stopped { IfErr result (IsFirst (row_when (nat_le NEGATIVES_MAX (negatives_of self.now.state.tables account)) Refusal.NegativesFull ∷ [])) }
+        ensures stopped { IfErr result (IsFirst
+            (row_when (nat_le NEGATIVES_MAX (negatives_of self.now.state.tables account)) Refusal.NegativesFull ∷ [])) }
     {
         when(
             count_negatives(&self.negatives, account) >= NEGATIVES_MAX,

@@ -119,7 +119,8 @@ impl Ledger {
     /// Sets the fate of the placement of this number, where it is there.
     fn put_fate(&mut self, number: u64, fate: Fate)
         requires in_order { StandInOrder self.old.state.tables }
-        ensures state { self.new.state ≡ record self.old.state { tables = put_fate self.old.state.tables fate (placement_of self.old.state.tables number) } }
+        ensures state { let T = self.old.state.tables in
+            self.new.state ≡ record self.old.state { tables = put_fate T fate (placement_of T number) } }
         ensures left { HasLeft 1 self.old.spare self.new.spare }
     {
         let Some(found) = self.placement_of(number) else {

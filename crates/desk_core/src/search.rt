@@ -108,7 +108,8 @@ fn put_each(alloc: Global, placements: &[Placement]) -> Result<Vec<Change>, Allo
 fn words_of(alloc: Global, text: &Text) -> Result<Words, Stop>
     ensures words { IfOk result (λ words. words ≡ words_of text.now) }
     ensures fits { OnOk result (IsWithinLimits text.now) }
-    ensures stopped { IfErr result (λ stop. (S : State) (places : Option ℕ) → IsStop S (Call.Search text.now places) stop) }
+    ensures stopped { IfErr result (λ stop.
+        (S : State) (places : Option ℕ) → IsStop S (Call.Search text.now places) stop) }
 {
     match words(alloc, text.as_str()) {
         Ok(found) => Ok(found),

@@ -20,7 +20,9 @@ impl Ledger {
     pub(crate) fn placed(&self, page: &[Ranked]) -> Result<Vec<Placement>, AllocError>
         requires moment { self.now.state.moment ≤ MOMENT_MAX }
         requires priced { All (CanBePriced self.now.state) page.now }
-        ensures { IfOk result (λ new. (entered : List AdValue) → AreRankedFrom entered page.now → new.items ≡ all_placed self.now.state entered (length self.now.state.tables.placements + 1) (map (λ r. r.ad) page.now)) }
+        ensures { IfOk result (λ new. (entered : List AdValue) → AreRankedFrom entered page.now
+            → let S = self.now.state in
+            new.items ≡ all_placed S entered (length S.tables.placements + 1) (map (λ r. r.ad) page.now)) }
     {
         let first = self.placements.len() as u64 + 1;
         let mut placements = Vec::with_capacity(*self.lines.allocator(), page.len())?;
@@ -35,7 +37,9 @@ impl Ledger {
     fn placement(&self, number: u64, place: u64, ranked: &Ranked) -> Placement
         requires moment { self.now.state.moment ≤ MOMENT_MAX }
         requires priced { CanBePriced self.now.state ranked.now }
-        ensures { (entered : List AdValue) → AreOfDifferentAccounts entered → Contains entered ranked.now.ad → next_below entered ranked.now.ad ≡ ranked.now.next → the_place entered ranked.now.ad ≡ place → result ≡ placed self.now.state entered number ranked.now.ad }
+        ensures { (entered : List AdValue) → AreOfDifferentAccounts entered → Contains entered ranked.now.ad
+            → next_below entered ranked.now.ad ≡ ranked.now.next → the_place entered ranked.now.ad ≡ place
+            → result ≡ placed self.now.state entered number ranked.now.ad }
     {
         let ad = &ranked.ad;
         Placement {

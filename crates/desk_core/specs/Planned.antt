@@ -3,11 +3,12 @@ use Rattle.std.specs.Prelude.{◌≡◌, List, [], ◌∷◌, Option, None, Some
 use Rattle.desk_types.specs.declared.call.Call.{Call}
 use Rattle.desk_types.specs.declared.refusal.Refusal.{Refusal}
 use Rattle.desk_types.specs.declared.tables.Change.{Change}
+use Rattle.desk_types.specs.declared.tables.Change.TheVariants.{PutFate}
 use Rattle.desk_types.specs.Changes.{changes, reply}
 use Rattle.desk_types.specs.Judged.{first, judged, refusals}
 use Rattle.desk_types.specs.State.{State}
 use Rattle.desk_core.specs.declared.plan.Changes.{Changes}
-use Rattle.desk_core.specs.declared.plan.Changes.TheVariants.{Nothing, One, Several}
+use Rattle.desk_core.specs.declared.plan.Changes.TheVariants.{Nothing, Fate, Several}
 use Rattle.desk_core.specs.declared.plan.Plan.{Plan}
 use Rattle.desk_core.specs.declared.stop.Stop.{Stop}
 use Rattle.desk_core.specs.declared.stop.Stop.TheVariants.{Refused, NoMemory}
@@ -15,7 +16,7 @@ use Rattle.desk_core.specs.declared.stop.Stop.TheVariants.{Refused, NoMemory}
 -- the changes, in order
 abbrev pub listed : Changes → List Change
 listed Nothing = []
-listed (One change) = change ∷ []
+listed (Fate number fate) = PutFate number fate ∷ []
 listed (Several list) = list
 
 -- no refusal of the call holds, and the changes and the reply are those of the accepted call

@@ -54,7 +54,8 @@ impl Ledger {
             key: key.twin()?,
             suspended: false,
         };
-        Ok(Plan::one(Change::PutAccount(account), Reply::Made(number)))
+        let alloc = *self.accounts.allocator();
+        Ok(Plan::one(alloc, Change::PutAccount(account), Reply::Made(number))?)
     }
 
     /// Plans a campaign, which is on from the start, with the budget of its first day.

@@ -12,7 +12,7 @@ use crate::ledger::Ledger;
 use crate::money::is_escrowed;
 use crate::plan::{Changes, Plan};
 use crate::stop::Stop;
-use desk_types::{Change, Fate, LinkText, Placement, Refusal, Reply};
+use desk_types::{Fate, Placement, Refusal, Reply};
 
 impl Ledger {
     /// Plans a click on the placement of this number: it settles where the price is escrowed, and goes to the line's
@@ -30,7 +30,7 @@ impl Ledger {
         let line = self.line_there(found.account, found.line);
         Ok(Plan {
             changes: settlement(self.moment, found),
-            reply: Reply::Went(copy_of(&line.link)),
+            reply: Reply::Went(line.link.copy()),
         })
     }
 
@@ -49,18 +49,8 @@ fn settlement(moment: u64, found: &Placement) -> Changes
     if !is_escrowed(found, moment) {
         return Changes::Nothing;
     }
-    Changes::One(Change::PutFate {
+    Changes::Fate {
         number: found.number,
         fate: Fate::Settled(moment),
-    })
-}
-
-/// An equal link. It takes no memory.
-fn copy_of(link: &LinkText) -> LinkText
-    ensures { result ≡ link.now }
-{
-    match LinkText::read(link.as_str()) {
-        Some(copy) => copy,
-        None => unreachable!(),
     }
 }

@@ -119,7 +119,7 @@ fn answer(ledger: &mut Ledger, journal: &mut Journal, call: &Call) -> Result<Rep
     journal.reserve(1)?;
     match planned {
         Ok(plan) => {
-            ledger.make_room(plan.changes.as_slice())?;
+            ledger.make_room(&plan.changes)?;
             ledger.accept(call, plan.changes);
             Ok(plan.reply)
         }

@@ -57,7 +57,8 @@ impl Ledger {
         self.judge_owner(account, key)?;
         let line = self.line_made(account, asked)?;
         let number = line.number;
-        Ok(Plan::one(Change::PutLine(line), Reply::Made(number)))
+        let alloc = *self.lines.allocator();
+        Ok(Plan::one(alloc, Change::PutLine(line), Reply::Made(number))?)
     }
 
     /// The row of a line that an account asks for, or why it is refused.

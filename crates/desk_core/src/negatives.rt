@@ -41,7 +41,10 @@ impl Ledger {
             listed changes ≡ drop_of (negative_of self.now.state.tables account negative)) }
     {
         match self.negative_of(account, negative) {
-            Some(found) => Ok(Changes::One(Change::PutNegative(with_live(found, false)?))),
+            Some(found) => {
+                let dropped = Change::PutNegative(with_live(found, false)?);
+                Changes::one(*self.negatives.allocator(), dropped)
+            }
             None => Ok(Changes::Nothing),
         }
     }
@@ -72,7 +75,8 @@ impl Ledger {
         self.judge_campaign(account, campaign)?;
         let negative = self.negative_made(account, campaign, pattern)?;
         let number = negative.number;
-        Ok(Plan::one(Change::PutNegative(negative), Reply::Made(number)))
+        let alloc = *self.negatives.allocator();
+        Ok(Plan::one(alloc, Change::PutNegative(negative), Reply::Made(number))?)
     }
 
     /// The row of a negative that an account asks for in a campaign that is there, or why it is refused.

@@ -8,3 +8,6 @@ pub mod LineCuts
 pub mod Ahead
 mod NextLines
 mod Returns
+pub mod ToldLaws
+mod NextTold
+pub mod ReadSoFar

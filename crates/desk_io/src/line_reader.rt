@@ -56,9 +56,9 @@ impl Model for LineReader {
 }
 
 impl LineReader {
-    /// A reader of lines of at most `max` bytes. It takes all its memory here.
+    /// A reader of lines of at most `max` bytes, before the first one. It takes all its memory here.
     pub fn new(alloc: Global, max: u64) -> Result<LineReader, NoMemory>
-        ensures { IfOk result (λ reader. reader ≡ record { max = max; held = []; line = []; is_ended = false }) }
+        ensures { IfOk result (λ reader. reader ≡ record { max = max; held = []; line = []; is_ended = true }) }
     {
         let size = match (max as usize).checked_add(BLOCK) {
             Some(size) => size,
@@ -67,7 +67,7 @@ impl LineReader {
         Ok(LineReader {
             max,
             searched: 0,
-            is_ended: false,
+            is_ended: true,
             window: Window::new(alloc, size)?,
         })
     }

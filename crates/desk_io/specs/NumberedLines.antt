@@ -27,7 +27,7 @@ pub record NumberedText : Type 0 where
   pub number : ℕ
   pub text : List ℕ
 
--- the texts that lines tell, and what stands behind these: the end, with how many lines there are, or a line that goes past a limit
+-- the texts that lines tell, and what stands behind these: the end, with how many lines there are, or a line past a limit
 pub record ToldLines : Type 0 where
   pub texts : List NumberedText
   pub end : Result ℕ LineFault
@@ -65,9 +65,11 @@ lines_taken End = 0
 lines_taken (Fault fault) = 0
 lines_taken ReadFault = 0
 
--- a text was the first that was told, and a line that is passed over tells nothing; at the end and at a fault no text was told; a failed read takes nothing
+-- a text was the first that was told, and a line that is passed over tells nothing; at the end and at a fault no text
+-- was told; a failed read takes nothing
 abbrev pub TellsNext : Option ToldLines → Option ToldLines → NextLine → NumberedValue → Type 0
-TellsNext before after Text now = before ≡ option_map (behind_texts (record { number = now.count; text = now.text } ∷ [])) after
+TellsNext before after Text now =
+    before ≡ option_map (behind_texts (record { number = now.count; text = now.text } ∷ [])) after
 TellsNext before after Skipped now = before ≡ after
 TellsNext before after End now = IfSome before (λ told. told ≡ record { texts = []; end = Ok now.count })
 TellsNext before after (Fault fault) now = IfSome before (λ told. told ≡ record { texts = []; end = Err fault })

@@ -9,7 +9,8 @@ use crate::{LineGot, LineReader, NoMemory, Source};
 use std::alloc::Global;
 use std::marker::Model;
 
-/// The first fault in the lines of an input. Lines are counted from 1, those that are passed over included.
+/// The first fault in the lines of an input. Lines are counted from 1, those that are passed over
+/// included.
 #[derive(Clone, Copy, Debug, PartialEq, Eq)]
 pub enum LineFault {
     /// This line is in no form.
@@ -35,9 +36,11 @@ pub enum NextLine {
     ReadFault,
 }
 
-/// Reads the lines of an input: counts them, keeps them within the limits, and passes over those that are empty or begin with `#`.
+/// Reads the lines of an input: counts them, keeps them within the limits, and passes over those that
+/// are empty or begin with `#`.
 ///
-/// A line behind 1,000,000 others is too many, and any other is too long where it has more than 4,096 bytes, whether it is passed over or not.
+/// A line behind 1,000,000 others is too many, and any other is too long where it has more than 4,096
+/// bytes, whether it is passed over or not.
 #[derive(Drop)]
 pub struct NumberedLines {
     reader: LineReader,
@@ -51,7 +54,9 @@ impl Model for NumberedLines {
 
     ghost Value = { NumberedValue };
 
-    ghost view = { λ n. record { count = n.count; held = n.reader.held; text = n.reader.line; is_ended = n.reader.is_ended } };
+    ghost view = {
+        λ n. record { count = n.count; held = n.reader.held; text = n.reader.line; is_ended = n.reader.is_ended }
+    };
 
     ghost invariant = { λ n. (n.reader.max ≡ LINE_BYTES_MAX) × (n.count ≤ INPUT_LINES_MAX) };
 }
@@ -69,11 +74,20 @@ impl NumberedLines {
 
     /// Reads the next line.
     ///
-    /// A text is told with its number, a line that is passed over is counted alone. `End` comes exactly where no byte is left, and `Fault` exactly where the next line goes past a limit. `ReadFault` comes only where the source's count of faults rose and no whole line is held; it takes nothing.
+    /// A text is told with its number, a line that is passed over is counted alone. `End` comes exactly
+    /// where no byte is left, and `Fault` exactly where the next line goes past a limit. `ReadFault`
+    /// comes only where the source's count of faults rose and no whole line is held; it takes nothing.
     pub fn next<S: Source>(&mut self, source: &mut S) -> NextLine
         ensures count { self.new.count ≡ self.old.count + lines_taken result }
-        ensures told { TellsNext (told self.old (S.source source.old).left) (told self.new (S.source source.new).left) result self.new }
-        ensures line { ReadsNext self.old.count (unread self.old (S.source source.old).left) (unread self.new (S.source source.new).left) result self.new }
+        ensures told {
+            TellsNext (told self.old (S.source source.old).left) (told self.new (S.source source.new).left)
+                result self.new
+        }
+        ensures line {
+            ReadsNext self.old.count
+                (unread self.old (S.source source.old).left) (unread self.new (S.source source.new).left)
+                result self.new
+        }
         ensures passed { PassesOver result self.new.text }
         ensures short { length self.new.text ≤ LINE_BYTES_MAX }
         ensures faults { (S.source source.old).faults ≤ (S.source source.new).faults }
@@ -89,9 +103,15 @@ impl NumberedLines {
 
     // Counts the line that was read, unless it is one too many.
     fn take_line(&mut self) -> NextLine
-        ensures full { self.old.count ≡ INPUT_LINES_MAX → (result ≡ NextLine.Fault LineFault.TooManyLines) × (self.new ≡ self.old) }
-        ensures count { self.old.count < INPUT_LINES_MAX → self.new ≡ record self.old { count = self.old.count + 1 } }
-        ensures skipped { self.old.count < INPUT_LINES_MAX → result ≡ (if skips self.old.text then NextLine.Skipped else NextLine.Text) }
+        ensures full { INPUT_LINES_MAX ≤ self.old.count → result ≡ NextLine.Fault LineFault.TooManyLines }
+        ensures same { INPUT_LINES_MAX ≤ self.old.count → self.new ≡ self.old }
+        ensures count {
+            self.old.count < INPUT_LINES_MAX → self.new ≡ record self.old { count = self.old.count + 1 }
+        }
+        ensures skipped {
+            self.old.count < INPUT_LINES_MAX →
+            result ≡ (if skips self.old.text then NextLine.Skipped else NextLine.Text)
+        }
     {
         if self.count == INPUT_LINES_MAX {
             return NextLine::Fault(LineFault::TooManyLines);
@@ -106,7 +126,10 @@ impl NumberedLines {
 
     // The fault of a next line with too many bytes.
     fn fault_of_long(&self) -> LineFault
-        ensures { result ≡ (if nat_le INPUT_LINES_MAX self.now.count then LineFault.TooManyLines else LineFault.LongLine (self.now.count + 1)) }
+        ensures {
+            result ≡ (if nat_le INPUT_LINES_MAX self.now.count then LineFault.TooManyLines
+            else LineFault.LongLine (self.now.count + 1))
+        }
     {
         if self.count == INPUT_LINES_MAX {
             LineFault::TooManyLines

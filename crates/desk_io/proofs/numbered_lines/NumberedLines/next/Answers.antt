@@ -11,7 +11,7 @@ returns-in-Line-clause-told g c =
     let lines = rw c.self.invariant.0 at c.in-Line.ensures.lines in
     rw (← c.self.view_is)
     (told-taken was read c.take_line.new.self (g.S.Source.source c.args.source.now).left (g.S.Source.source c.next.new.source).left c.take_line.result lines.0 lines.1
-    (λ many. (c.take_line.ensures.full (omega arith)).0) c.take_line.ensures.count c.take_line.ensures.skipped)
+    c.take_line.ensures.full c.take_line.ensures.count c.take_line.ensures.skipped)
 
 pub returns-in-End-clause-told : goal.returns-in-End-clause-told
 returns-in-End-clause-told g c =

@@ -10,3 +10,8 @@ pub mod NextLine
 pub mod SourceInMemory
 pub mod SinkInMemory
 pub mod StdEnds
+pub mod LinkInMemory
+pub mod Counting
+pub mod Moments
+pub mod Pieces
+pub mod Putting

@@ -1,6 +1,8 @@
 mod Moved
 pub mod Appending
 mod Sending
+pub mod Putting
+mod PieceTexts
 pub mod LineLaws
 mod Filling
 mod LineFeeds

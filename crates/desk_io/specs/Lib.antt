@@ -12,3 +12,8 @@ pub mod NumberedLines
 pub mod SourceInMemory
 pub mod SinkInMemory
 pub mod StdEnds
+pub mod LinkInMemory
+pub mod Counting
+pub mod Moments
+pub mod Pieces
+pub mod Putting

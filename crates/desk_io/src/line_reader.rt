@@ -82,6 +82,7 @@ impl LineReader {
         ensures ended { EndsLine (ahead self.old (S.source source.old).left) result self.new }
         ensures faults { (S.source source.old).faults ≤ (S.source source.new).faults }
         ensures cause { LineCause (S.source source.old).faults (S.source source.new).faults result }
+        ensures sink_side { S.sink_side source.new ≡ S.sink_side source.old }
     {
         self.forget_line();
         loop {
@@ -191,6 +192,7 @@ impl LineReader {
         ensures bytes { Fills (S.source source.old).left (S.source source.new).left self.old.held self.new.held result }
         ensures faults { (S.source source.old).faults ≤ (S.source source.new).faults }
         ensures cause { ReadCause (S.source source.old).faults (S.source source.new).faults result }
+        ensures sink_side { S.sink_side source.new ≡ S.sink_side source.old }
     {
         self.window.fill(source)
     }

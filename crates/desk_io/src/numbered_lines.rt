@@ -90,8 +90,10 @@ impl NumberedLines {
         }
         ensures passed { PassesOver result self.new.text }
         ensures short { length self.new.text ≤ LINE_BYTES_MAX }
+        ensures within { self.new.count ≤ INPUT_LINES_MAX }
         ensures faults { (S.source source.old).faults ≤ (S.source source.new).faults }
         ensures cause { NextCause (S.source source.old).faults (S.source source.new).faults result }
+        ensures sink_side { S.sink_side source.new ≡ S.sink_side source.old }
     {
         match self.reader.next(source) {
             LineGot::Line => self.take_line(),

@@ -2,22 +2,11 @@
 use Rattle.std.proofs.Common.{◌≡◌, ℕ, ◌+◌, ◌<◌, true, false, inl, inr, List, [], ◌∷◌, ◌++◌, length, Option, Some, None, IfSome, Result, Ok, refl, sym, ap, ◌∙◌, append_assoc, append-nil}
 use Rattle.std.specs.Option.{option_map}
 use Rattle.desk_io.specs.Lines.{has_line_feed, lines, first_line, after_first_line}
-use Rattle.desk_io.specs.NumberedLines.{is_skipped, NumberedText, ToldLines, texts_of, behind_texts, lines_told, unread, told, IsNextLine, AreEnded, AreCutOff}
+use Rattle.desk_io.specs.NumberedLines.{is_skipped, NumberedText, ToldLines, texts_of, behind_texts, lines_told, unread, told, IsNextLine, IsStep, AreEnded, AreRead, ReadSoFar, AreCutOff}
 use Rattle.desk_io.specs.NumberedValue.{NumberedValue}
 use Rattle.desk_io.specs.declared.numbered_lines.LineFault.{LineFault}
 use Rattle.desk_io.proofs.LineCuts.{cut-some, cut-none}
 use Rattle.desk_io.proofs.ToldLaws.{lines_told-nil, lines_told-line}
-
--- of the bytes a part was read, which is empty or ends with a line feed, and goes past no limit: it tells these texts, whatever stands behind it
-pub record AreRead (bytes : List ℕ) (texts : List NumberedText) (now : NumberedValue) (left : Option (List ℕ)) : Type 0 where
-  pub part : List ℕ
-  pub whole : Some bytes ≡ option_map (λ more. part ++ more) (unread now left)
-  pub ended : AreEnded part
-  pub tells : (more : List ℕ) → lines_told 0 (lines (part ++ more)) ≡ behind_texts texts (lines_told now.count (lines more))
-
--- the same, where the bytes are told
-abbrev pub ReadSoFar : Option (List ℕ) → List NumberedText → NumberedValue → Option (List ℕ) → Type 0
-ReadSoFar whole texts now left = IfSome whole (λ bytes. AreRead bytes texts now left)
 
 -- before the first line
 pub read-none : (whole left : Option (List ℕ)) (now : NumberedValue) → unread now left ≡ whole → now.count ≡ 0 → ReadSoFar whole [] now left
@@ -47,11 +36,6 @@ texts_of-skipped number text skipped = rw skipped refl
 
 whole-of : (bytes part rest : List ℕ) (ahead : Option (List ℕ)) → Some bytes ≡ option_map (λ more. part ++ more) ahead → ahead ≡ Some rest → bytes ≡ part ++ rest
 whole-of bytes part rest ahead whole is = let same : Some bytes ≡ Some (part ++ rest) = whole ∙ ap (option_map (λ more. part ++ more)) is in cc
-
--- a step of the reader: the next line is the first of the rest, and is counted
-pub record IsStep (was now : NumberedValue) (left left_now : Option (List ℕ)) : Type 0 where
-  pub line : IfSome (unread was left) (λ bytes. IsNextLine was.count bytes (unread now left_now) now)
-  pub counted : now.count ≡ was.count + 1
 
 module _ (bytes rest : List ℕ) (texts : List NumberedText) (was now : NumberedValue) (left left_now : Option (List ℕ)) (ahead : unread was left ≡ Some rest)
     (read : AreRead bytes texts was left) (next : IsNextLine was.count rest (unread now left_now) now) (counted : now.count ≡ was.count + 1) where

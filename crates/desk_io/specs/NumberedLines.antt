@@ -1,6 +1,5 @@
 -- The lines of an input by their numbers: which texts they tell, up to the first line that goes past a limit.
-use Rattle.std.specs.Prelude.{◌≡◌, ℕ, ◌+◌, ◌<◌, Bool, true, false, ◌==◌, nat_le, nat_lt, if◌then◌else◌, List, [], ◌∷◌, ◌++◌, length, Option, Some, None, IfSome, Result, Ok, Err}
-use Rattle.std.specs.Prelude.{◌⊎◌}
+use Rattle.std.specs.Prelude.{◌≡◌, ℕ, ◌+◌, ◌<◌, Bool, true, false, ◌==◌, nat_le, nat_lt, if◌then◌else◌, List, [], ◌∷◌, ◌++◌, length, Option, Some, None, IfSome, Result, Ok, Err, ◌⊎◌}
 use Rattle.std.specs.Option.{option_map}
 use Rattle.desk_io.specs.Faults.{Rose}
 use Rattle.desk_io.specs.Lines.{Line, has_line_feed, lines, first_line, after_first_line}
@@ -120,3 +119,20 @@ pub record AreCutOff (bytes : List ℕ) (left : Option (List ℕ)) (texts : List
   pub no_feed : has_line_feed rest ≡ false
   pub count : ℕ
   pub told : lines_told 0 (lines part) ≡ record { texts = texts; end = Ok count }
+
+-- of the bytes a part was read, which is empty or ends with a line feed, and goes past no limit: it tells these texts,
+-- whatever stands behind it
+pub record AreRead (bytes : List ℕ) (texts : List NumberedText) (now : NumberedValue) (left : Option (List ℕ)) : Type 0 where
+  pub part : List ℕ
+  pub whole : Some bytes ≡ option_map (λ more. part ++ more) (unread now left)
+  pub ended : AreEnded part
+  pub tells : (more : List ℕ) → lines_told 0 (lines (part ++ more)) ≡ behind_texts texts (lines_told now.count (lines more))
+
+-- the same, where the bytes are told
+abbrev pub ReadSoFar : Option (List ℕ) → List NumberedText → NumberedValue → Option (List ℕ) → Type 0
+ReadSoFar whole texts now left = IfSome whole (λ bytes. AreRead bytes texts now left)
+
+-- one more line was read, and is counted
+pub record IsStep (was now : NumberedValue) (left left_now : Option (List ℕ)) : Type 0 where
+  pub line : IfSome (unread was left) (λ bytes. IsNextLine was.count bytes (unread now left_now) now)
+  pub counted : now.count ≡ was.count + 1

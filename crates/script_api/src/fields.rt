@@ -1,7 +1,9 @@
 //! The fields of a text, which spaces part, and the texts behind them; lines that are passed over.
 
-ghost use Rattle.std.specs.Prelude.{◌≡◌, ◌≢◌, ◌<◌, ◌∷◌, [], length, IfSome, MatchOption};
+ghost use Rattle.std.specs.Prelude.{◌≡◌, ◌≢◌, ℕ, ◌<◌, ◌≤◌, ◌∷◌, [], length, slice_index, IfSome, MatchOption};
 ghost use Rattle.script_api.specs.LineFields.{fields, is_skipped as skips, unspaced, unspaced_end, behind_first, behind_third, behind_fifth};
+
+use memchr::memchr;
 
 /// Whether a line is passed over: it is empty or begins with `#`.
 pub fn is_skipped(line: &[u8]) -> bool
@@ -17,7 +19,18 @@ pub fn is_skipped(line: &[u8]) -> bool
 pub fn without_spaces(text: &str) -> &str
     ensures { result.now ≡ unspaced text.now }
 {
-    text.trim_start_matches(' ')
+    &text[spaces_in_front(text.as_bytes())..]
+}
+
+/// How many spaces stand in front of a text.
+fn spaces_in_front(text: &[u8]) -> usize
+    ensures within { result ≤ length text.now }
+    ensures spaces { (k : ℕ) → k < result → slice_index text.now k ≡ 32 }
+    ensures other { result < length text.now → slice_index text.now result ≢ 32 }
+{
+    text.iter()
+        .position(|byte| *byte != b' ')
+        .unwrap_or(text.len())
 }
 
 /// The text without the spaces at its end.
@@ -37,8 +50,8 @@ pub fn first_field(text: &str) -> Option<(&str, &str)>
     if text.is_empty() {
         return None;
     }
-    match text.split_once(' ') {
-        Some(cut) => Some(cut),
+    match memchr(b' ', text.as_bytes()) {
+        Some(end) => Some((&text[..end], &text[end + 1..])),
         None => Some((text, "")),
     }
 }

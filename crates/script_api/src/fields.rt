@@ -58,7 +58,8 @@ pub fn first_field(text: &str) -> Option<(&str, &str)>
 
 /// The first three fields of a text and what stands behind them, or `None` where it has fewer.
 pub fn first_three(text: &str) -> Option<(&str, &str, &str, &str)>
-    ensures fields { MatchOption result (length (fields text.now) < 3) (λ cut. fields text.now ≡ cut.0.now ∷ cut.1.now ∷ cut.2.now ∷ fields cut.3.now) }
+    ensures fields { MatchOption result (length (fields text.now) < 3)
+        (λ cut. fields text.now ≡ cut.0.now ∷ cut.1.now ∷ cut.2.now ∷ fields cut.3.now) }
     ensures behind { IfSome result (λ cut. cut.3.now ≡ behind_third text.now) }
 {
     let (first, rest) = first_field(text)?;
@@ -69,7 +70,8 @@ pub fn first_three(text: &str) -> Option<(&str, &str, &str, &str)>
 
 /// The first five fields of a text and what stands behind them, or `None` where it has fewer.
 pub fn first_five(text: &str) -> Option<(&str, &str, &str, &str, &str, &str)>
-    ensures fields { MatchOption result (length (fields text.now) < 5) (λ cut. fields text.now ≡ cut.0.now ∷ cut.1.now ∷ cut.2.now ∷ cut.3.now ∷ cut.4.now ∷ fields cut.5.now) }
+    ensures fields { MatchOption result (length (fields text.now) < 5)
+        (λ cut. fields text.now ≡ cut.0.now ∷ cut.1.now ∷ cut.2.now ∷ cut.3.now ∷ cut.4.now ∷ fields cut.5.now) }
     ensures behind { IfSome result (λ cut. cut.5.now ≡ behind_fifth text.now) }
 {
     let (first, second, third, rest) = first_three(text)?;
@@ -100,7 +102,8 @@ pub fn two_fields(text: &str) -> Option<(&str, &str)>
 
 /// The three fields of a text, or `None` where it has another number of them.
 pub fn three_fields(text: &str) -> Option<(&str, &str, &str)>
-    ensures { MatchOption result (length (fields text.now) ≢ 3) (λ f. fields text.now ≡ f.0.now ∷ f.1.now ∷ f.2.now ∷ []) }
+    ensures { MatchOption result (length (fields text.now) ≢ 3)
+        (λ f. fields text.now ≡ f.0.now ∷ f.1.now ∷ f.2.now ∷ []) }
 {
     let (first, rest) = first_field(text)?;
     let (second, third) = two_fields(rest)?;
@@ -109,7 +112,8 @@ pub fn three_fields(text: &str) -> Option<(&str, &str, &str)>
 
 /// The four fields of a text, or `None` where it has another number of them.
 pub fn four_fields(text: &str) -> Option<(&str, &str, &str, &str)>
-    ensures { MatchOption result (length (fields text.now) ≢ 4) (λ f. fields text.now ≡ f.0.now ∷ f.1.now ∷ f.2.now ∷ f.3.now ∷ []) }
+    ensures { MatchOption result (length (fields text.now) ≢ 4)
+        (λ f. fields text.now ≡ f.0.now ∷ f.1.now ∷ f.2.now ∷ f.3.now ∷ []) }
 {
     let (first, rest) = first_field(text)?;
     let (second, third, fourth) = three_fields(rest)?;
@@ -118,7 +122,8 @@ pub fn four_fields(text: &str) -> Option<(&str, &str, &str, &str)>
 
 /// The five fields of a text, or `None` where it has another number of them.
 pub fn five_fields(text: &str) -> Option<(&str, &str, &str, &str, &str)>
-    ensures { MatchOption result (length (fields text.now) ≢ 5) (λ f. fields text.now ≡ f.0.now ∷ f.1.now ∷ f.2.now ∷ f.3.now ∷ f.4.now ∷ []) }
+    ensures { MatchOption result (length (fields text.now) ≢ 5)
+        (λ f. fields text.now ≡ f.0.now ∷ f.1.now ∷ f.2.now ∷ f.3.now ∷ f.4.now ∷ []) }
 {
     let (first, rest) = first_field(text)?;
     let (second, third, fourth, fifth) = four_fields(rest)?;

@@ -35,7 +35,7 @@ pub fn number(text: &str) -> Option<u64>
     number_in(text.as_bytes(), 0, u64::MAX)
 }
 
-/// A number with a digit behind it, or `None` where the byte is no digit or the number is not below 2^64.
+/// A number with a digit behind it, or `None` where the byte is no digit or the number not below 2^64.
 fn with_digit(number: u64, byte: u8) -> Option<u64>
     ensures none { IfNone result ((is_ascii_digit byte ≡ false) ⊎ (2 ^ 64 ≤ number * 10 + digit_value byte)) }
     ensures some { IfSome result (λ more. (is_ascii_digit byte ≡ true) × (more ≡ number * 10 + digit_value byte)) }

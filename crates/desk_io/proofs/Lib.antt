@@ -1,6 +1,8 @@
 mod Moved
 pub mod Appending
 mod Sending
+pub mod Putting
+mod PieceTexts
 pub mod LineLaws
 mod Filling
 mod LineFeeds
@@ -8,3 +10,6 @@ pub mod LineCuts
 pub mod Ahead
 mod NextLines
 mod Returns
+pub mod ToldLaws
+mod NextTold
+pub mod ReadSoFar

@@ -56,9 +56,9 @@ impl Model for LineReader {
 }
 
 impl LineReader {
-    /// A reader of lines of at most `max` bytes. It takes all its memory here.
+    /// A reader of lines of at most `max` bytes, before the first one. It takes all its memory here.
     pub fn new(alloc: Global, max: u64) -> Result<LineReader, NoMemory>
-        ensures { IfOk result (λ reader. reader ≡ record { max = max; held = []; line = []; is_ended = false }) }
+        ensures { IfOk result (λ reader. reader ≡ record { max = max; held = []; line = []; is_ended = true }) }
     {
         let size = match (max as usize).checked_add(BLOCK) {
             Some(size) => size,
@@ -67,7 +67,7 @@ impl LineReader {
         Ok(LineReader {
             max,
             searched: 0,
-            is_ended: false,
+            is_ended: true,
             window: Window::new(alloc, size)?,
         })
     }
@@ -82,6 +82,7 @@ impl LineReader {
         ensures ended { EndsLine (ahead self.old (S.source source.old).left) result self.new }
         ensures faults { (S.source source.old).faults ≤ (S.source source.new).faults }
         ensures cause { LineCause (S.source source.old).faults (S.source source.new).faults result }
+        ensures sink_side { S.sink_side source.new ≡ S.sink_side source.old }
     {
         self.forget_line();
         loop {
@@ -191,6 +192,7 @@ impl LineReader {
         ensures bytes { Fills (S.source source.old).left (S.source source.new).left self.old.held self.new.held result }
         ensures faults { (S.source source.old).faults ≤ (S.source source.new).faults }
         ensures cause { ReadCause (S.source source.old).faults (S.source source.new).faults result }
+        ensures sink_side { S.sink_side source.new ≡ S.sink_side source.old }
     {
         self.window.fill(source)
     }

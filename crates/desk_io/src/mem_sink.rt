@@ -58,9 +58,12 @@ impl MemSink {
 
 impl Sink for MemSink {
     ghost use Rattle.desk_io.specs.SinkInMemory.{view_of_sink};
+    ghost use Rattle.desk_io.specs.SourceView.{no_source};
     ghost use Rattle.std.proofs.Common.{arith};
 
     ghost sink = { λ s. view_of_sink s };
+
+    ghost source_side = { λ _. no_source };
 
     ghost taken_fits = { λ s. Prim.omega arith };
 

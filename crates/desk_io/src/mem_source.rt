@@ -49,9 +49,12 @@ impl MemSource {
 }
 
 impl Source for MemSource {
+    ghost use Rattle.desk_io.specs.SinkView.{no_sink};
     ghost use Rattle.desk_io.specs.SourceInMemory.{view_of_source};
 
     ghost source = { λ s. view_of_source s };
+
+    ghost sink_side = { λ _. no_sink };
 
     /// Gives the next bytes, at most `cut`, or fails where this read's number says so.
     fn read(&mut self, room: &mut [u8]) -> Got

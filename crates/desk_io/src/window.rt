@@ -101,6 +101,7 @@ impl Window {
         ensures bytes { Fills (S.source source.old).left (S.source source.new).left self.old.held self.new.held result }
         ensures faults { (S.source source.old).faults ≤ (S.source source.new).faults }
         ensures cause { ReadCause (S.source source.old).faults (S.source source.new).faults result }
+        ensures sink_side { S.sink_side source.new ≡ S.sink_side source.old }
     {
         self.line_start = 0;
         self.line_end = 0;
@@ -117,6 +118,7 @@ impl Window {
         ensures bytes { Fills (S.source source.old).left (S.source source.new).left self.old.held self.new.held result }
         ensures faults { (S.source source.old).faults ≤ (S.source source.new).faults }
         ensures cause { ReadCause (S.source source.old).faults (S.source source.new).faults result }
+        ensures sink_side { S.sink_side source.new ≡ S.sink_side source.old }
     {
         self.make_room();
         self.take_in(source)

@@ -17,7 +17,7 @@ ghost use Rattle.desk_types.specs.State.{State, empty, catalogue};
 ghost use Rattle.desk_types.specs.Step.{step, at_moment};
 ghost use Rattle.desk_types.specs.Tables.{placement_of};
 ghost use Rattle.desk_types.specs.Run.{run};
-ghost use Rattle.desk_types.specs.Serving.{Serves, AreServed, with_entry};
+ghost use Rattle.desk_types.specs.Serving.{Serves, ServiceView, AreServed, with_entry, with_seen};
 ghost use Rattle.desk_types.specs.Sound.{IsSound, StandInOrder, StaysWithinBudgets};
 ghost use Rattle.desk_types.specs.Journal.{IsBefore, IsLegal, IsRise, is_full};
 ghost use Rattle.desk_types.specs.LedgerLaws.{IsPageAnswered, ChangesNoRow};
@@ -84,17 +84,19 @@ pub fn equal_editions_have_equal_catalogues()
         catalogue (run S (entries ++ more)) ≡ catalogue (run S entries) }
 {}
 
-/// Calls that are served one after the other are served as one list: no call, one call, and two lists.
+/// Calls that are served one after the other are served as one list: no call, one call, and two lists. Whatever the
+/// calls, the caller, the opening and whether the keeper is sure stay.
 pub fn calls_served_in_turn_are_served_as_one_list()
-    ensures none { (caller : ℕ) (opening : State) (seen : List Entry) →
-        IsLegal opening.settings seen → AreServed caller opening seen [] [] seen }
-    ensures one { (caller : ℕ) (opening : State) (seen left : List Entry) (moment : ℕ) (call : Call)
-        (result : Result Reply Fault) → Serves caller opening seen moment call result left →
-        AreServed caller opening seen ((moment, call) ∷ []) (result ∷ []) left }
-    ensures joined { (caller : ℕ) (opening : State) (seen between left : List Entry) (calls more : List (ℕ × Call))
+    ensures none { (service : ServiceView) → IsLegal service.opening.settings service.seen →
+        AreServed service [] [] service }
+    ensures one { (service left : ServiceView) (moment : ℕ) (call : Call) (result : Result Reply Fault) →
+        Serves service moment call result left → AreServed service ((moment, call) ∷ []) (result ∷ []) left }
+    ensures joined { (service between left : ServiceView) (calls more : List (ℕ × Call))
         (results others : List (Result Reply Fault)) →
-        AreServed caller opening seen calls results between → AreServed caller opening between more others left
-        → AreServed caller opening seen (calls ++ more) (results ++ others) left }
+        AreServed service calls results between → AreServed between more others left →
+        AreServed service (calls ++ more) (results ++ others) left }
+    ensures stays { (service left : ServiceView) (calls : List (ℕ × Call)) (results : List (Result Reply Fault)) →
+        AreServed service calls results left → left ≡ with_seen service left.seen }
 {}
 
 /// The empty list is a legal journal, and so are each prefix of a legal one, and a legal one that has room for a call

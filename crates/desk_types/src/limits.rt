@@ -1,5 +1,8 @@
 //! The ranges of the numbers and texts that the desk takes, and how many of each thing it holds.
 
+ghost use Rattle.std.specs.Prelude.{◌≡◌};
+ghost use Rattle.desk_types.specs.Day.{day_of};
+
 /// The least bid and the least reserve, in cents per click.
 pub const BID_MIN: u64 = 1;
 
@@ -81,3 +84,19 @@ pub const LINES_MAX: u64 = 1_000;
 
 /// The most negatives of an account, dropped ones among them.
 pub const NEGATIVES_MAX: u64 = 500;
+
+/// A law: the limits are these numbers.
+pub fn limits_are_these()
+    ensures bids { (BID_MIN ≡ 1) × (BID_MAX ≡ 1000000) }
+    ensures qualities { (QUALITY_MIN ≡ 1) × (QUALITY_MAX ≡ 100) × (QUALITY_NEW ≡ 10) }
+    ensures budgets { (BUDGET_MIN ≡ 1) × (BUDGET_MAX ≡ 1000000000000) }
+    ensures auctions { (RESERVE_USUAL ≡ 5) × (FLOOR_MAX ≡ 100000000) × (PLACES_MAX ≡ 8) × (PLACES_USUAL ≡ 4) }
+    ensures clicks { CLICK_WINDOW ≡ 1800 }
+    ensures moments { MOMENT_MAX ≡ 253402300799 }
+    ensures days { (DAY_SECONDS ≡ 86400) × (day_of MOMENT_MAX ≡ 2932896) }
+    ensures texts { (KEY_BYTES_MIN ≡ 8) × (KEY_BYTES_MAX ≡ 64) × (HEADLINE_BYTES_MAX ≡ 90) × (LINK_BYTES_MAX ≡ 512) }
+    ensures rows { (ACCOUNTS_MAX ≡ 1000) × (CAMPAIGNS_MAX ≡ 64) × (LINES_MAX ≡ 1000) × (NEGATIVES_MAX ≡ 500) }
+    ensures placements { (PLACEMENTS_MAX ≡ 2000000) × (PLACEMENTS_USUAL ≡ 1000000) }
+    ensures journal_entries { (JOURNAL_MAX ≡ 4000000) × (JOURNAL_USUAL ≡ 1000000) }
+    ensures journal_bytes { JOURNAL_BYTES_MAX ≡ 1000000000 }
+{}

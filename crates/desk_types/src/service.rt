@@ -1,8 +1,8 @@
 //! A service: something that answers calls, for one caller, in a history that others may share.
 
-ghost use Rattle.std.specs.Prelude.{◌≡◌, ℕ, Bool, IsTrue, List as Items};
-ghost use Rattle.desk_types.specs.Serving.{Serves, IsSureResult, HasNoFault};
+ghost use Rattle.std.specs.Prelude.{◌≡◌, IsTrue};
 ghost use Rattle.desk_types.specs.Journal.{IsLegal};
+ghost use Rattle.desk_types.specs.Serving.{Serves, HasNoFault};
 
 use crate::call::Call;
 use crate::entry::Fault;
@@ -11,8 +11,7 @@ use crate::reply::Reply;
 /// Answers calls of one caller. What it has seen is a legal list of entries: those of its caller, and
 /// those of others that came between.
 pub trait Service {
-    ghost use Rattle.desk_types.specs.declared.entry.Entry.{Entry};
-    ghost use Rattle.desk_types.specs.State.{State};
+    ghost use Rattle.desk_types.specs.Serving.{ServiceView};
 
     /// What `home` is of: plain data that says what is served.
     type Home;
@@ -20,22 +19,13 @@ pub trait Service {
     /// What it serves.
     ghost home: { Self → Self.Home };
 
-    /// The state before all entries, with the settings.
-    ghost opening: { Self → State };
-
-    /// The entries that it has seen.
-    ghost seen: { Self → Items Entry };
-
-    /// The caller's number.
-    ghost me: { Self → ℕ };
-
-    /// Whether the keeper never fails.
-    ghost sure: { Self → Bool };
+    /// Its caller, the state before all entries, the entries that it has seen, and whether its keeper never fails.
+    ghost service: { Self → ServiceView };
 
     /// A law, with nothing to run: what it has seen is a legal list, and has no fault where it is sure.
     fn history_is_legal(&self)
-        ensures legal { IsLegal (opening self.now).settings (seen self.now) }
-        ensures sure { IsTrue (sure self.now) → HasNoFault (seen self.now) };
+        ensures legal { IsLegal (service self.now).opening.settings (service self.now).seen }
+        ensures sure { IsTrue (service self.now).sure → HasNoFault (service self.now).seen };
 
     /// Makes a call at a moment, in seconds. Entries of others may come before it.
     ///
@@ -44,9 +34,5 @@ pub trait Service {
     /// no room for the call, but that `Fault::NoMemory` may come in its place; these two put no entry.
     fn call(&mut self, moment: u64, call: Call) -> Result<Reply, Fault>
         ensures home { home self.new ≡ home self.old }
-        ensures opening { opening self.new ≡ opening self.old }
-        ensures me { me self.new ≡ me self.old }
-        ensures sure { sure self.new ≡ sure self.old }
-        ensures serves { Serves (me self.old) (opening self.old) (seen self.old) moment call result (seen self.new) }
-        ensures sure_result { IsTrue (sure self.old) → IsSureResult result };
+        ensures serves { Serves (service self.old) moment call result (service self.new) };
 }

@@ -16,4 +16,4 @@ mod tests;
 pub use kind::MatchType;
 pub use matching::{exact_is_phrase, matches, phrase_is_broad};
 pub use pattern::Pattern;
-pub use reading::{PATTERN_BYTES, PATTERN_WORDS, PatternCause, PatternError};
+pub use reading::{PATTERN_BYTES, PATTERN_WORDS, PatternCause, PatternError, limits_are_these};

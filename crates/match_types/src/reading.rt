@@ -12,6 +12,12 @@ pub const PATTERN_BYTES: usize = 80;
 /// The most words of a pattern.
 pub const PATTERN_WORDS: usize = 10;
 
+/// A law: a pattern's text has at most 80 bytes and 10 words.
+pub fn limits_are_these()
+    ensures bytes { PATTERN_BYTES ≡ 80 }
+    ensures words { PATTERN_WORDS ≡ 10 }
+{}
+
 /// Why a text is no pattern, in the order in which it is judged.
 #[derive(Clone, Copy, Debug, PartialEq, Eq)]
 pub enum PatternCause {

@@ -16,7 +16,7 @@ mod twin;
 mod word_list;
 
 pub use cut::{QUERY_BYTES, QUERY_WORDS, WordsError, words};
-pub use laws::same_key_same_words;
+pub use laws::{limits_are_these, same_key_same_words};
 pub use list::List;
 pub use std::alloc::AllocError as NoMemory;
 pub use text::Text;

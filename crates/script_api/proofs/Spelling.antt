@@ -7,11 +7,8 @@ use Rattle.desk_io.specs.declared.numbered_lines.LineFault.{LineFault}
 use Rattle.script_api.specs.declared.ending.ScriptEnd.{ScriptEnd}
 use Rattle.script_api.specs.Script.{script_line}
 use Rattle.script_api.specs.ScriptRun.{AreFirstOf}
+use Rattle.script_api.specs.ScriptTurn.{SpellOn}
 use Rattle.script_api.specs.ScriptValue.{ScriptValue, calls_of, form_end, end_of, behind_calls, spelled_by, script_of}
-
--- texts spell these calls and none of them ends the script
-abbrev pub SpellOn : List NumberedText → List (ℕ × Call) → Type 0
-SpellOn texts calls = (more : List NumberedText) (ending : ScriptEnd) → spelled_by (texts ++ more) ending ≡ behind_calls calls (spelled_by more ending)
 
 behind-assoc : (calls more : List (ℕ × Call)) (script : ScriptValue) → behind_calls calls (behind_calls more script) ≡ behind_calls (calls ++ more) script
 behind-assoc calls more script = ap (λ (all : List (ℕ × Call)). let s : ScriptValue = record { calls = all; end = script.end } in s) (sym (append_assoc calls more script.calls))

@@ -32,7 +32,6 @@ use Rattle.script_api.specs.ScriptTurn.{SpellOn, Midway, midway, AreCallsServed,
 use Rattle.script_api.specs.ScriptValue.{ScriptValue, calls_of, form_end, end_of, script_of}
 use Rattle.script_api.proofs.Spelling.{spell-none, spell-text, script-all, script-first, script-ended}
 
-
 rose_later : (before between now : ℕ) → before ≤ between → Rose between now → Rose before now
 rose_later before between now low rose = omega arith
 
@@ -205,16 +204,16 @@ turn-on : (start : ScriptState) (now : Midway) (texts : List NumberedText) (was 
     AreTextsServed start now (texts ++ texts_of now.lines.count now.lines.text) → Goes start now (Ok (if now.lines.is_ended then None else Some Ended))
 turn-on start now texts was left read step served = elim (cases_Bool now.lines.is_ended) [
   | inl ended ↦
-    subst (λ (b : Bool). Goes start now (Ok (if b then None else Some Ended))) (sym ended) (record {
-      texts = texts ++ texts_of now.lines.count now.lines.text;
-      read = read-line texts was now.lines left now.at.source.left step start.source.left read ended;
-      served = served;
-    })
+      subst (λ (b : Bool). Goes start now (Ok (if b then None else Some Ended))) (sym ended) (record {
+        texts = texts ++ texts_of now.lines.count now.lines.text;
+        read = read-line texts was now.lines left now.at.source.left step start.source.left read ended;
+        served = served;
+      })
   | inr last ↦
-    subst (λ (b : Bool). Goes start now (Ok (if b then None else Some Ended))) (sym last)
-    (ending-told start now served.calls Ended refl served.made
-    (told-all (texts ++ texts_of now.lines.count now.lines.text) served.calls served.spell start.source.left (Ok now.lines.count) (read-last texts was now.lines left now.at.source.left step start.source.left read last))
-    (λ _. step-last was now.lines left now.at.source.left step last))
+      subst (λ (b : Bool). Goes start now (Ok (if b then None else Some Ended))) (sym last)
+      (ending-told start now served.calls Ended refl served.made
+      (told-all (texts ++ texts_of now.lines.count now.lines.text) served.calls served.spell start.source.left (Ok now.lines.count) (read-last texts was now.lines left now.at.source.left step start.source.left read last))
+      (λ _. step-last was now.lines left now.at.source.left step last))
 ]
 
 -- a line that is passed over was read

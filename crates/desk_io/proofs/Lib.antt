@@ -3,6 +3,7 @@ pub mod Appending
 mod Sending
 pub mod Putting
 mod PieceTexts
+pub mod Pairs
 pub mod LineLaws
 mod Filling
 mod LineFeeds

@@ -11,6 +11,7 @@ pub mod SourceInMemory
 pub mod SinkInMemory
 pub mod StdEnds
 pub mod LinkInMemory
+pub mod Pairing
 pub mod Counting
 pub mod Moments
 pub mod Pieces

@@ -31,7 +31,7 @@ pub use mem_clock::MemClock;
 pub use mem_link::MemLink;
 pub use mem_sink::MemSink;
 pub use mem_source::MemSource;
-pub use out_buf::{OutBuf, WriteFault};
+pub use out_buf::{OutBuf, WAITING_BYTES_MAX, WriteFault, limits_are_these};
 pub use pair::Pair;
 pub use piece::Piece;
 pub use sink::{Put, Sink};

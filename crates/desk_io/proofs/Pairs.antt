@@ -1,5 +1,5 @@
 -- A pair that keeps its lenders.
-use Rattle.std.proofs.Common.{◌≡◌, ap}
+use Rattle.std.proofs.Common.{◌≡◌}
 use Rattle.desk_io.specs.declared.pair.Pair.{Pair}
 use Rattle.desk_io.specs.Pairing.{lenders_of}
 

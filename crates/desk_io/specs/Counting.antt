@@ -1,5 +1,5 @@
 -- A sink that counts as contracts see it.
-use Rattle.std.specs.Prelude.{ℕ, ◌+◌, ◌-◌, ◌^◌, min, None, Some, []}
+use Rattle.std.specs.Prelude.{ℕ, ◌-◌, ◌^◌, min, None, Some, []}
 use Rattle.desk_io.specs.SinkView.{SinkView}
 
 -- a count of 64 bits that stays at its last value

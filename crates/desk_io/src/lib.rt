@@ -1,4 +1,4 @@
-//! The outside world as the desk sees it: bytes that come, bytes that go, and lines of bytes.
+//! The outside world as the desk sees it: bytes that come, lines of bytes, bytes that go, and the time.
 //! A fault is answered only where a count of faults rose, and what is written is a beginning of what was to be.
 //! It stands on nothing of the project.
 //! What the bytes mean is left to the crates above.

@@ -2,7 +2,7 @@ mod Moved
 pub mod Appending
 mod Sending
 pub mod Putting
-mod PieceTexts
+pub mod FlatMaps
 pub mod Pairs
 pub mod LineLaws
 mod Filling

@@ -2,7 +2,8 @@ mod Moved
 pub mod Appending
 mod Sending
 pub mod Putting
-pub mod FlatMaps
+mod FlatMaps
+pub mod PuttingEach
 pub mod Pairs
 pub mod LineLaws
 mod Filling

@@ -213,5 +213,8 @@ fn make_call<V: Service, T: Sink>(
     ensures write_faults { (T.sink output.old).faults ≤ (T.sink output.new).faults }
 {
     let answer = service.call(moment, call);
-    answers.put(output, &answer)
+    match answers.put(output, &answer) {
+        Ok(()) => Ok(()),
+        Err(_) => Err(ScriptEnd::WriteFault),
+    }
 }

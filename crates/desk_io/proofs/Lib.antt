@@ -1,6 +1,10 @@
 mod Moved
 pub mod Appending
 mod Sending
+pub mod Putting
+mod FlatMaps
+pub mod PuttingEach
+pub mod Pairs
 pub mod LineLaws
 mod Filling
 mod LineFeeds
@@ -8,3 +12,6 @@ pub mod LineCuts
 pub mod Ahead
 mod NextLines
 mod Returns
+pub mod ToldLaws
+mod NextTold
+pub mod ReadSoFar

@@ -7,6 +7,14 @@ pub mod Lines
 pub mod Reader
 pub mod WindowValue
 pub mod NextLine
+pub mod NumberedValue
+pub mod NumberedLines
 pub mod SourceInMemory
 pub mod SinkInMemory
 pub mod StdEnds
+pub mod LinkInMemory
+pub mod Pairing
+pub mod Counting
+pub mod Moments
+pub mod Pieces
+pub mod Putting

@@ -52,13 +52,14 @@ impl Model for LineReader {
     ghost view = { λ r. record { max = r.max; held = r.window.held; line = r.window.line; is_ended = r.is_ended } };
 
     // no line feed stands among the bytes that were searched
-    ghost invariant = { λ r. (r.window.size ≡ r.max + BLOCK) × (r.searched ≤ position_or_len is_line_feed r.window.held) };
+    ghost invariant = { λ r. (r.window.size ≡ r.max + BLOCK)
+        × (r.searched ≤ position_or_len is_line_feed r.window.held) };
 }
 
 impl LineReader {
-    /// A reader of lines of at most `max` bytes. It takes all its memory here.
+    /// A reader of lines of at most `max` bytes, before the first one. It takes all its memory here.
     pub fn new(alloc: Global, max: u64) -> Result<LineReader, NoMemory>
-        ensures { IfOk result (λ reader. reader ≡ record { max = max; held = []; line = []; is_ended = false }) }
+        ensures { IfOk result (λ reader. reader ≡ record { max = max; held = []; line = []; is_ended = true }) }
     {
         let size = match (max as usize).checked_add(BLOCK) {
             Some(size) => size,
@@ -67,7 +68,7 @@ impl LineReader {
         Ok(LineReader {
             max,
             searched: 0,
-            is_ended: false,
+            is_ended: true,
             window: Window::new(alloc, size)?,
         })
     }
@@ -77,11 +78,13 @@ impl LineReader {
     /// `End` comes exactly where no byte is left, and `TooLong` exactly where more than `max` bytes stand before the line feed or the end. Only a line is taken from what is ahead, so that the call may be made again after a fault, which comes only where no whole line is held.
     pub fn next<S: Source>(&mut self, source: &mut S) -> LineGot
         ensures max { self.new.max ≡ self.old.max }
-        ensures lines { GivesLine self.old.max (ahead self.old (S.source source.old).left) (ahead self.new (S.source source.new).left) result self.new.line }
+        ensures lines { GivesLine self.old.max (ahead self.old (S.source source.old).left)
+            (ahead self.new (S.source source.new).left) result self.new.line }
         ensures fits { LineFits self.old.max result self.new.line }
         ensures ended { EndsLine (ahead self.old (S.source source.old).left) result self.new }
         ensures faults { (S.source source.old).faults ≤ (S.source source.new).faults }
         ensures cause { LineCause (S.source source.old).faults (S.source source.new).faults result }
+        ensures sink_side { S.sink_side source.new ≡ S.sink_side source.old }
     {
         self.forget_line();
         loop {
@@ -191,6 +194,7 @@ impl LineReader {
         ensures bytes { Fills (S.source source.old).left (S.source source.new).left self.old.held self.new.held result }
         ensures faults { (S.source source.old).faults ≤ (S.source source.new).faults }
         ensures cause { ReadCause (S.source source.old).faults (S.source source.new).faults result }
+        ensures sink_side { S.sink_side source.new ≡ S.sink_side source.old }
     {
         self.window.fill(source)
     }

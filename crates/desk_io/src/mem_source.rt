@@ -26,7 +26,13 @@ impl Model for MemSource {
 
     ghost Value = { SourceValue };
 
-    ghost view = { λ s. record { left = drop s.taken s.bytes.items; reads = s.reads; cut = s.cut; fails = s.fails.items; faults = s.faults } };
+    ghost view = { λ s. record {
+      left = drop s.taken s.bytes.items;
+      reads = s.reads;
+      cut = s.cut;
+      fails = s.fails.items;
+      faults = s.faults;
+    } };
 
     ghost invariant = { λ s. (s.taken ≤ vec_len s.bytes) × (1 ≤ s.cut) };
 }
@@ -49,9 +55,12 @@ impl MemSource {
 }
 
 impl Source for MemSource {
+    ghost use Rattle.desk_io.specs.SinkView.{no_sink};
     ghost use Rattle.desk_io.specs.SourceInMemory.{view_of_source};
 
     ghost source = { λ s. view_of_source s };
+
+    ghost sink_side = { λ _. no_sink };
 
     /// Gives the next bytes, at most `cut`, or fails where this read's number says so.
     fn read(&mut self, room: &mut [u8]) -> Got

@@ -1,6 +1,6 @@
 //! Where bytes go.
 
-ghost use Rattle.std.specs.Prelude.{◌<◌, ◌≤◌, length};
+ghost use Rattle.std.specs.Prelude.{◌≡◌, ◌<◌, ◌≤◌, length};
 ghost use Rattle.desk_io.specs.Writing.{Writes, WritesWithin, WriteCause};
 
 /// What a write answers.
@@ -16,18 +16,23 @@ pub enum Put {
 pub trait Sink {
     ghost use Rattle.std.specs.Prelude.{◌<◌, ◌^◌, IfSome};
     ghost use Rattle.desk_io.specs.SinkView.{SinkView};
+    ghost use Rattle.desk_io.specs.SourceView.{SourceView};
 
     ghost sink: { Self → SinkView };
 
+    // the source that it is too, where it is a link; else nothing is told of it
+    ghost source_side: { Self → SourceView };
+
     /// Appends the first of the bytes, which are not empty.
     ///
-    /// `Failed` comes only where the count of faults rose, and appends nothing.
+    /// `Failed` comes only where the count of faults rose, and appends nothing. What is left of a link stays.
     fn write(&mut self, bytes: &[u8]) -> Put
         requires { 0 < length bytes.now }
         ensures within { WritesWithin result (length bytes.now) }
         ensures bytes { Writes (sink self.old) (sink self.new) result bytes.now }
         ensures faults { (sink self.old).faults ≤ (sink self.new).faults }
-        ensures cause { WriteCause (sink self.old).faults (sink self.new).faults result };
+        ensures cause { WriteCause (sink self.old).faults (sink self.new).faults result }
+        ensures source_side { source_side self.new ≡ source_side self.old };
 
     // the number of bytes taken is one of 64 bits
     ghost taken_fits: { (s : Self) → IfSome (sink s).taken (λ n. n < 2 ^ 64) };

@@ -24,9 +24,15 @@ impl Model for Window {
 
     ghost Value = { WindowValue };
 
-    ghost view = { λ w. record { line = drop w.line_start (take w.line_end w.bytes.items); held = drop w.start (take w.end w.bytes.items); behind = vec_len w.bytes - w.end; size = vec_len w.bytes } };
+    ghost view = { λ w. record {
+      line = drop w.line_start (take w.line_end w.bytes.items);
+      held = drop w.start (take w.end w.bytes.items);
+      behind = vec_len w.bytes - w.end;
+      size = vec_len w.bytes;
+    } };
 
-    ghost invariant = { λ w. (w.line_start ≤ w.line_end) × (w.line_end ≤ vec_len w.bytes) × (w.start ≤ w.end) × (w.end ≤ vec_len w.bytes) };
+    ghost invariant = { λ w. (w.line_start ≤ w.line_end) × (w.line_end ≤ vec_len w.bytes)
+        × (w.start ≤ w.end) × (w.end ≤ vec_len w.bytes) };
 }
 
 impl Window {
@@ -101,6 +107,7 @@ impl Window {
         ensures bytes { Fills (S.source source.old).left (S.source source.new).left self.old.held self.new.held result }
         ensures faults { (S.source source.old).faults ≤ (S.source source.new).faults }
         ensures cause { ReadCause (S.source source.old).faults (S.source source.new).faults result }
+        ensures sink_side { S.sink_side source.new ≡ S.sink_side source.old }
     {
         self.line_start = 0;
         self.line_end = 0;
@@ -117,6 +124,7 @@ impl Window {
         ensures bytes { Fills (S.source source.old).left (S.source source.new).left self.old.held self.new.held result }
         ensures faults { (S.source source.old).faults ≤ (S.source source.new).faults }
         ensures cause { ReadCause (S.source source.old).faults (S.source source.new).faults result }
+        ensures sink_side { S.sink_side source.new ≡ S.sink_side source.old }
     {
         self.make_room();
         self.take_in(source)

@@ -1,12 +1,15 @@
 -- Fields, cut off one after another.
-use Rattle.std.proofs.Common.{◌≡◌, ◌≢◌, ℕ, ◌<◌, ◌≤◌, ◌+◌, List, [], ◌∷◌, length, take, drop, get_or, refl, sym, ◌∙◌, ap, arith, Bool, false, inl, inr}
-use Rattle.std.specs.Prelude.{◌==◌, nat_lt, filter, slice_index}
+use Rattle.std.proofs.Common.{◌≡◌, ◌≢◌, ℕ, ◌<◌, ◌≤◌, ◌+◌, ◌-◌, List, [], ◌∷◌, length, take, drop, get_or, refl, sym, ◌∙◌, ap, arith, Bool, false, inl, inr, Some, None}
+use Rattle.std.specs.Prelude.{◌==◌, nat_lt, filter, slice_index, slice_range}
 use Rattle.std.specs.List.{slice_split, position_or_len, before_first, after_first, All}
-use Rattle.std.proofs.lemmas.Bool.{cases_lt, cases_eq, eqb-true, lt-ltb, cond-true}
+use Rattle.std.specs.Str.{IsUtf8, IsCharBoundary}
+use Rattle.std.proofs.lemmas.Str.{IsCharBoundary-after_ascii}
+use Rattle.std.proofs.lemmas.Bool.{cases_lt, cases_eq, eqb-true, lt-ltb, cond-true, false_from_ne_true}
 use Rattle.std.proofs.lemmas.List.{length-take-le, drop_all}
 use Rattle.std.proofs.lemmas.List.Elements.{All-from_get_or}
 use Rattle.std.proofs.lemmas.List.Splits.{slice_split_first, slice_split_none}
-use Rattle.std.proofs.lemmas.List.Sums.{fails_before_first, passes_at_first}
+use Rattle.std.proofs.lemmas.List.Sums.{fails_before_first, passes_at_first, position_or_len_is}
+use Rattle.memchr.specs.Find.{IsFirstByte, is_byte}
 use Rattle.script_api.specs.LineFields.{fields, unspaced, behind_first}
 use Rattle.script_api.proofs.SpaceLemmas.{unspaced-space, unspaced-other, unspaced-nil}
 
@@ -91,13 +94,37 @@ behind-cut text = refl
 pub fields-no_text : (text : List ℕ) → length (unspaced text) ≡ 0 → fields text ≡ []
 fields-no_text text none = sym (fields-unspaced text) ∙ of_empty (unspaced text) none
 
--- the first field, cut off what begins with it
-pub cut_some : (text u a b : List ℕ) → u ≡ unspaced text → a ≡ before_first is_space u → b ≡ after_first is_space u → position_or_len is_space u < length u →
-    (fields text ≡ a ∷ fields b) × (b ≡ behind_first text)
-cut_some text u a b is front back h =
-    rw (front, back, is) (first-cut text (rw is at h), sym (behind-cut text))
+-- where the first space of a text stands
+pub space_found : (text : List ℕ) (place : ℕ) → IsFirstByte (is_byte 32) text (Some place) → position_or_len is_space text ≡ place
+space_found text place found =
+    let below = found.0 in
+    position_or_len_is is_space text place 0 (omega (arith, below.high))
+    (λ k before. false_from_ne_true (is_space (get_or text k 0)) (λ is. below.before k (omega arith) before is))
+    (λ inside. found.1)
 
-pub cut_none : (text u : List ℕ) → u ≡ unspaced text → position_or_len is_space u ≡ length u → 0 < length u →
-    (fields text ≡ u ∷ fields []) × ([] ≡ behind_first text)
-cut_none text u is h long =
-    rw is (first-last text (rw is at h) (rw is at long), sym (behind-last text (rw is at h)))
+pub space_none : (text : List ℕ) → IsFirstByte (is_byte 32) text None → position_or_len is_space text ≡ length text
+space_none text none =
+    position_or_len_is is_space text (length text) 0 (omega arith)
+    (λ k before. false_from_ne_true (is_space (get_or text k 0)) (λ is. none k (omega arith) before is))
+    (λ inside. absurd (omega arith))
+
+-- the first field, cut off what begins with it
+module _ (text u : List ℕ) (is : u ≡ unspaced text) where
+  pub cut_some : (a b : List ℕ) (place : ℕ) → IsFirstByte (is_byte 32) u (Some place) → a ≡ slice_range u 0 place → b ≡ drop (place + 1) u →
+      (fields text ≡ a ∷ fields b) × (b ≡ behind_first text)
+  cut_some a b place found front back =
+      let at : position_or_len is_space u ≡ place = space_found u place found in
+      let within : position_or_len is_space u < length u = omega (arith, at, found.0.high) in
+      let whole : place - 0 ≡ place = omega arith in
+      rw (front, whole, back, ← at, is) (first-cut text (rw is at within), sym (behind-cut text))
+
+  pub cut_none : IsFirstByte (is_byte 32) u None → 0 < length u → (fields text ≡ u ∷ fields []) × ([] ≡ behind_first text)
+  cut_none none long =
+      let at : position_or_len is_space u ≡ length u = space_none u none in
+      rw is (first-last text (rw is at at) (rw is at long), sym (behind-last text (rw is at at)))
+
+-- a text goes on behind a space
+pub behind_space : (text : List ℕ) (place : ℕ) → IsUtf8 text → IsFirstByte (is_byte 32) text (Some place) → IsCharBoundary text (place + 1)
+behind_space text place utf8 found =
+    let is : get_or text place 0 ≡ 32 = eqb-true _ _ found.1 in
+    IsCharBoundary-after_ascii text place utf8 found.0.high (omega (arith, is))

@@ -1,8 +1,10 @@
 -- Spaces taken off the ends of a text.
-use Rattle.std.proofs.Common.{◌≡◌, ◌≢◌, ℕ, ◌-◌, List, [], ◌∷◌, ◌++◌, length, take, drop, refl, sym, ◌∙◌, ap, arith, Bool, true, false}
+use Rattle.std.proofs.Common.{◌≡◌, ◌≢◌, ℕ, zero, suc, ◌+◌, ◌-◌, ◌<◌, ◌≤◌, List, [], ◌∷◌, ◌++◌, length, take, drop, get_or, refl, sym, ◌∙◌, ap, arith, Bool, true, false}
 use Rattle.std.specs.Prelude.{◌==◌, ◌&&◌, Option, Some, None, if◌then◌else◌, IfSome}
 use Rattle.std.specs.Char.{encode_utf8}
-use Rattle.std.specs.Str.Pattern.{HasCharAt, FindsCharPrefix, FindsCharSuffix, CutsPrefixes, CutsSuffixes, IsTrimStartMatches, IsTrimEndMatches}
+use Rattle.std.specs.Str.{IsUtf8, IsCharBoundary}
+use Rattle.std.proofs.lemmas.Str.{IsCharBoundary-start, IsCharBoundary-after_ascii}
+use Rattle.std.specs.Str.Pattern.{FindsCharSuffix, CutsSuffixes, IsTrimEndMatches}
 use Rattle.std.proofs.lemmas.Bool.{ne_eqb}
 use Rattle.std.proofs.lemmas.List.{take-append-drop, drop_all}
 use Rattle.script_api.specs.LineFields.{unspaced, unspaced_end}
@@ -19,27 +21,22 @@ pub unspaced-nil : unspaced [] ≡ []
 unfolding unspaced
 unspaced-nil = refl
 
-one_off : (m : List ℕ) (n : ℕ) → HasCharAt 32 m 0 n → unspaced (drop n m) ≡ unspaced m
-unfolding encode_utf8
-one_off m n at =
-    let is : m ≡ 32 ∷ drop n m = at.split in
-    sym (ap unspaced is ∙ unspaced-space (drop n m))
+-- so many spaces stand in front, and no more
+pub unspaced-is : (text : List ℕ) (n : ℕ) → n ≤ length text → ((k : ℕ) → k < n → get_or text k 0 ≡ 32) → (n < length text → get_or text n 0 ≢ 32) → unspaced text ≡ drop n text
+unspaced-is [] zero within spaces other = unspaced-nil
+unspaced-is [] (suc n) within spaces other = absurd (omega (arith, within))
+unspaced-is (byte ∷ more) zero within spaces other = unspaced-other byte more (other (omega arith))
+unspaced-is (byte ∷ more) (suc n) within spaces other =
+    let first : byte ≡ 32 = spaces 0 (omega arith) in
+    rw (first, unspaced-space more) (unspaced-is more n (omega (arith, within)) (λ k h. spaces (suc k) (omega (arith, h))) (λ h. other (omega (arith, h))))
 
-cut_off : (s : List ℕ) (ns : List ℕ) (r : List ℕ) → CutsPrefixes (FindsCharPrefix 32) s ns r → unspaced r ≡ unspaced s
-cut_off s [] r h = ap unspaced h
-cut_off s (n ∷ ns) r h = ap unspaced h.3 ∙ (one_off h.0 n h.2 ∙ cut_off s ns h.0 h.1)
-
-none_in_front : (r : List ℕ) → ((rest : List ℕ) → r ≢ encode_utf8 32 ++ rest) → unspaced r ≡ r
-unfolding encode_utf8
-none_in_front [] h = unspaced-nil
-none_in_front (byte ∷ more) h = unspaced-other byte more (λ e. h more (ap (λ b. b ∷ more) e))
-
-fully : (r : List ℕ) (o : Option ℕ) → FindsCharPrefix 32 r o → IfSome o (λ n. n ≡ 0) → unspaced r ≡ r
-fully r None h z = none_in_front r h
-fully r (Some n) h z = absurd (let e : n ≡ 1 = h.ends in omega (arith, e, z))
-
-pub unspaced-from_trim : (s r : List ℕ) → IsTrimStartMatches (FindsCharPrefix 32) s r → r ≡ unspaced s
-unspaced-from_trim s r h = sym (fully r h.1.0 h.1.1 h.1.2) ∙ cut_off s h.0.0 r h.0.1
+-- a text goes on behind spaces
+pub behind_spaces : (text : List ℕ) (n : ℕ) → IsUtf8 text → n ≤ length text → ((k : ℕ) → k < n → get_or text k 0 ≡ 32) → IsCharBoundary text n
+behind_spaces text zero utf8 within spaces = IsCharBoundary-start text utf8
+behind_spaces text (suc n) utf8 within spaces =
+    let ascii : get_or text n 0 < 128 = omega (arith, spaces n (omega arith)) in
+    let after : IsCharBoundary text (n + 1) = IsCharBoundary-after_ascii text n utf8 (omega (arith, within)) ascii in
+    let same : n + 1 ≡ suc n = omega arith in rw same at after
 
 -- at the end
 unspaced_end-nil : unspaced_end [] ≡ []

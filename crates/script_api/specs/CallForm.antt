@@ -24,7 +24,8 @@ campaign_call _ = None
 
 -- `A KEY C BID LINK PATTERN | HEADLINE`, the text beginning with the pattern
 abbrev pub line_from : List ℕ → List ℕ → Option ℕ → Option ℕ → Option ℕ → Option (List ℕ × List ℕ) → Option Call
-line_from key link (Some account) (Some campaign) (Some bid) (Some cut) = Some (AddLine account key campaign bid cut.0 cut.1 link)
+line_from key link (Some account) (Some campaign) (Some bid) (Some cut) =
+    Some (AddLine account key campaign bid cut.0 cut.1 link)
 line_from key link _ _ _ _ = None
 
 abbrev pub line_call : List (List ℕ) → List ℕ → Option Call

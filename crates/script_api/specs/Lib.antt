@@ -3,6 +3,7 @@ pub mod LineFields
 pub mod Bar
 pub mod Command
 pub mod CallForm
+pub mod CallParts
 pub mod OtherForm
 pub mod Script
 pub mod ReplyLine

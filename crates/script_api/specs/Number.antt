@@ -6,7 +6,8 @@ use Rattle.std.specs.Str.Parse.{digits_value}
 
 -- whether a text spells a number: digits alone, and no zero in front of another digit
 unfoldable pub is_numeral : List ℕ → Bool
-is_numeral text = nat_lt 0 (length text) && (list_all is_ascii_digit text && (length text == 1 || not (slice_index text 0 == 48)))
+is_numeral text =
+    nat_lt 0 (length text) && (list_all is_ascii_digit text && (length text == 1 || not (slice_index text 0 == 48)))
 
 -- the number that a text spells, where it is in the range
 unfoldable pub number_within : ℕ → ℕ → List ℕ → Option ℕ

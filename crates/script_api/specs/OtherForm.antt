@@ -42,7 +42,8 @@ are_keyed_numbers _ = false
 
 -- `A KEY campaign C on`, or `line`, or `off`
 abbrev pub is_pause : List (List ℕ) → Bool
-is_pause (account ∷ key ∷ part ∷ n ∷ switch ∷ []) = is_number account && (is_part part && (is_number n && is_switch switch))
+is_pause (account ∷ key ∷ part ∷ n ∷ switch ∷ []) =
+    is_number account && (is_part part && (is_number n && is_switch switch))
 is_pause _ = false
 
 -- whether the fields behind a command are in its form

@@ -2,7 +2,8 @@
 
 ghost use Rattle.std.specs.Prelude.{◌≡◌, IfOk};
 ghost use Rattle.script_api.specs.LineFields.{fields, unspaced, behind_first, behind_third, behind_fifth};
-ghost use Rattle.script_api.specs.CallForm.{account_call as account_spelled, campaign_call as campaign_spelled, line_call as line_spelled, negative_call as negative_spelled, drop_call as drop_spelled, search_call as search_spelled, click_call as click_spelled, call_spelled, places_spelled};
+ghost use Rattle.script_api.specs.CallForm.{account_call, campaign_call, line_call, negative_call, drop_call, search_call, click_call, call_spelled, places_spelled};
+ghost use Rattle.script_api.specs.CallParts.{call_of, Spells};
 
 use crate::bar::texts_round_bar;
 use crate::command::CallWord;
@@ -14,147 +15,211 @@ use desk_types::Call;
 use query_words::{NoMemory, Text};
 use std::alloc::Global;
 
+/// A call as a line spells it: its texts are parts of the line.
+#[derive(Clone, Copy)]
+pub enum CallParts<'a> {
+    AddAccount {
+        key: &'a str,
+    },
+    AddCampaign {
+        account: u64,
+        key: &'a str,
+        budget: u64,
+    },
+    AddLine {
+        account: u64,
+        key: &'a str,
+        campaign: u64,
+        bid: u64,
+        pattern: &'a str,
+        headline: &'a str,
+        link: &'a str,
+    },
+    AddNegative {
+        account: u64,
+        key: &'a str,
+        campaign: u64,
+        pattern: &'a str,
+    },
+    DropNegative {
+        account: u64,
+        key: &'a str,
+        negative: u64,
+    },
+    Search {
+        text: &'a str,
+        places: Option<u64>,
+    },
+    Click {
+        placement: u64,
+    },
+}
+
+impl CallParts<'_> {
+    /// The call, with texts of its own. `NoMemory` is want of memory for them.
+    pub fn call(&self, alloc: Global) -> Result<Call, NoMemory>
+        ensures { IfOk result (λ call. call ≡ call_of self.now) }
+    {
+        Ok(match *self {
+            CallParts::AddAccount { key } => Call::AddAccount {
+                key: Text::new(alloc, key)?,
+            },
+            CallParts::AddCampaign {
+                account,
+                key,
+                budget,
+            } => Call::AddCampaign {
+                account,
+                key: Text::new(alloc, key)?,
+                budget,
+            },
+            CallParts::AddLine {
+                account,
+                key,
+                campaign,
+                bid,
+                pattern,
+                headline,
+                link,
+            } => Call::AddLine {
+                account,
+                key: Text::new(alloc, key)?,
+                campaign,
+                bid,
+                pattern: Text::new(alloc, pattern)?,
+                headline: Text::new(alloc, headline)?,
+                link: Text::new(alloc, link)?,
+            },
+            CallParts::AddNegative {
+                account,
+                key,
+                campaign,
+                pattern,
+            } => Call::AddNegative {
+                account,
+                key: Text::new(alloc, key)?,
+                campaign,
+                pattern: Text::new(alloc, pattern)?,
+            },
+            CallParts::DropNegative {
+                account,
+                key,
+                negative,
+            } => Call::DropNegative {
+                account,
+                key: Text::new(alloc, key)?,
+                negative,
+            },
+            CallParts::Search { text, places } => Call::Search {
+                text: Text::new(alloc, text)?,
+                places,
+            },
+            CallParts::Click { placement } => Call::Click { placement },
+        })
+    }
+}
+
 /// The call of a command by the text behind it, or `None` where the text is in another form.
 #[tactic(auto, unfolding(crate::specs::CallForm::call_spelled))]
-pub fn read_call(alloc: Global, word: CallWord, text: &str) -> Result<Option<Call>, NoMemory>
-    ensures { IfOk result (λ call. call ≡ call_spelled word text.now) }
+pub fn read_call(word: CallWord, text: &str) -> Option<CallParts<'_>>
+    ensures { Spells (call_spelled word text.now) result }
 {
     match word {
-        CallWord::Account => account_call(alloc, text),
-        CallWord::Campaign => campaign_call(alloc, text),
-        CallWord::Line => line_call(alloc, text),
-        CallWord::Negative => negative_call(alloc, text),
-        CallWord::Drop => drop_call(alloc, text),
-        CallWord::Search => search_call(alloc, text),
-        CallWord::Click => Ok(click_call(text)),
+        CallWord::Account => account_parts(text),
+        CallWord::Campaign => campaign_parts(text),
+        CallWord::Line => line_parts(text),
+        CallWord::Negative => negative_parts(text),
+        CallWord::Drop => drop_parts(text),
+        CallWord::Search => search_parts(text),
+        CallWord::Click => click_parts(text),
     }
 }
 
 /// `KEY`
 #[tactic(auto, using(crate::proofs::FormLemmas::account_else))]
-fn account_call(alloc: Global, text: &str) -> Result<Option<Call>, NoMemory>
-    ensures { IfOk result (λ call. call ≡ account_spelled (fields text.now)) }
+fn account_parts(text: &str) -> Option<CallParts<'_>>
+    ensures { Spells (account_call (fields text.now)) result }
 {
-    let Some(key) = one_field(text) else {
-        return Ok(None);
-    };
-    let key = Text::new(alloc, key)?;
-    Ok(Some(Call::AddAccount { key }))
+    let key = one_field(text)?;
+    Some(CallParts::AddAccount { key })
 }
 
 /// `A KEY NUMBER`
 #[tactic(auto, using(crate::proofs::FormLemmas::campaign_else))]
-fn campaign_call(alloc: Global, text: &str) -> Result<Option<Call>, NoMemory>
-    ensures { IfOk result (λ call. call ≡ campaign_spelled (fields text.now)) }
+fn campaign_parts(text: &str) -> Option<CallParts<'_>>
+    ensures { Spells (campaign_call (fields text.now)) result }
 {
-    let Some((account, key, budget)) = three_fields(text) else {
-        return Ok(None);
-    };
-    let Some(account) = number(account) else {
-        return Ok(None);
-    };
-    let Some(budget) = number(budget) else {
-        return Ok(None);
-    };
-    let key = Text::new(alloc, key)?;
-    Ok(Some(Call::AddCampaign {
-        account,
+    let (account, key, budget) = three_fields(text)?;
+    Some(CallParts::AddCampaign {
+        account: number(account)?,
         key,
-        budget,
-    }))
+        budget: number(budget)?,
+    })
 }
 
 /// `A KEY C BID LINK PATTERN | HEADLINE`
 #[tactic(auto, using(crate::proofs::FormLemmas::line_else))]
-fn line_call(alloc: Global, text: &str) -> Result<Option<Call>, NoMemory>
-    ensures { IfOk result (λ call. call ≡ line_spelled (fields text.now) (unspaced (behind_fifth text.now))) }
+fn line_parts(text: &str) -> Option<CallParts<'_>>
+    ensures { Spells (line_call (fields text.now) (unspaced (behind_fifth text.now))) result }
 {
-    let Some((account, key, campaign, bid, link, rest)) = first_five(text) else {
-        return Ok(None);
-    };
-    let Some(account) = number(account) else {
-        return Ok(None);
-    };
-    let Some(campaign) = number(campaign) else {
-        return Ok(None);
-    };
-    let Some(bid) = number(bid) else {
-        return Ok(None);
-    };
-    let Some((pattern, headline)) = texts_round_bar(without_spaces(rest)) else {
-        return Ok(None);
-    };
-    Ok(Some(Call::AddLine {
+    let (account, key, campaign, bid, link, rest) = first_five(text)?;
+    let account = number(account)?;
+    let campaign = number(campaign)?;
+    let bid = number(bid)?;
+    let (pattern, headline) = texts_round_bar(without_spaces(rest))?;
+    Some(CallParts::AddLine {
         account,
-        key: Text::new(alloc, key)?,
+        key,
         campaign,
         bid,
-        pattern: Text::new(alloc, pattern)?,
-        headline: Text::new(alloc, headline)?,
-        link: Text::new(alloc, link)?,
-    }))
+        pattern,
+        headline,
+        link,
+    })
 }
 
 /// `A KEY C PATTERN`
 #[tactic(auto, using(crate::proofs::FormLemmas::negative_else))]
-fn negative_call(alloc: Global, text: &str) -> Result<Option<Call>, NoMemory>
-    ensures { IfOk result (λ call. call ≡ negative_spelled (fields text.now) (unspaced (behind_third text.now))) }
+fn negative_parts(text: &str) -> Option<CallParts<'_>>
+    ensures { Spells (negative_call (fields text.now) (unspaced (behind_third text.now))) result }
 {
-    let Some((account, key, campaign, rest)) = first_three(text) else {
-        return Ok(None);
-    };
-    let Some(account) = number(account) else {
-        return Ok(None);
-    };
-    let Some(campaign) = number(campaign) else {
-        return Ok(None);
-    };
+    let (account, key, campaign, rest) = first_three(text)?;
+    let account = number(account)?;
+    let campaign = number(campaign)?;
     let pattern = without_spaces(rest);
     if pattern.is_empty() {
-        return Ok(None);
+        return None;
     }
-    Ok(Some(Call::AddNegative {
+    Some(CallParts::AddNegative {
         account,
-        key: Text::new(alloc, key)?,
+        key,
         campaign,
-        pattern: Text::new(alloc, pattern)?,
-    }))
+        pattern,
+    })
 }
 
 /// `A KEY N`
 #[tactic(auto, using(crate::proofs::FormLemmas::drop_else))]
-fn drop_call(alloc: Global, text: &str) -> Result<Option<Call>, NoMemory>
-    ensures { IfOk result (λ call. call ≡ drop_spelled (fields text.now)) }
+fn drop_parts(text: &str) -> Option<CallParts<'_>>
+    ensures { Spells (drop_call (fields text.now)) result }
 {
-    let Some((account, key, negative)) = three_fields(text) else {
-        return Ok(None);
-    };
-    let Some(account) = number(account) else {
-        return Ok(None);
-    };
-    let Some(negative) = number(negative) else {
-        return Ok(None);
-    };
-    let key = Text::new(alloc, key)?;
-    Ok(Some(Call::DropNegative {
-        account,
+    let (account, key, negative) = three_fields(text)?;
+    Some(CallParts::DropNegative {
+        account: number(account)?,
         key,
-        negative,
-    }))
+        negative: number(negative)?,
+    })
 }
 
 /// `N TEXT` or `- TEXT`
-fn search_call(alloc: Global, text: &str) -> Result<Option<Call>, NoMemory>
-    ensures { IfOk result (λ call. call ≡ search_spelled (fields text.now) (unspaced (behind_first text.now))) }
+fn search_parts(text: &str) -> Option<CallParts<'_>>
+    ensures { Spells (search_call (fields text.now) (unspaced (behind_first text.now))) result }
 {
-    let Some((places, rest)) = first_field(text) else {
-        return Ok(None);
-    };
-    let Some(places) = places_of(places) else {
-        return Ok(None);
-    };
-    let text = Text::new(alloc, without_spaces(rest))?;
-    Ok(Some(Call::Search { text, places }))
+    let (places, rest) = first_field(text)?;
+    Some(CallParts::Search {
+        places: places_of(places)?,
+        text: without_spaces(rest),
+    })
 }
 
 /// The places of a search: a number, or none given by `-`.
@@ -164,17 +229,14 @@ fn places_of(field: &str) -> Option<Option<u64>>
     if field == "-" {
         return Some(None);
     }
-    match number(field) {
-        Some(places) => Some(Some(places)),
-        None => None,
-    }
+    Some(Some(number(field)?))
 }
 
 /// `N`
 #[tactic(auto, using(crate::proofs::FormLemmas::click_else))]
-fn click_call(text: &str) -> Option<Call>
-    ensures { result ≡ click_spelled (fields text.now) }
+fn click_parts(text: &str) -> Option<CallParts<'_>>
+    ensures { Spells (click_call (fields text.now)) result }
 {
     let placement = number(one_field(text)?)?;
-    Some(Call::Click { placement })
+    Some(CallParts::Click { placement })
 }

@@ -1,23 +1,26 @@
-//! The fields of a text, which spaces part, and the texts behind them; lines that are passed over.
+//! The fields of a text, which spaces part, and the texts behind them.
 
-ghost use Rattle.std.specs.Prelude.{◌≡◌, ◌≢◌, ◌<◌, ◌∷◌, [], length, IfSome, MatchOption};
-ghost use Rattle.script_api.specs.LineFields.{fields, is_skipped as skips, unspaced, unspaced_end, behind_first, behind_third, behind_fifth};
+ghost use Rattle.std.specs.Prelude.{◌≡◌, ◌≢◌, ℕ, ◌<◌, ◌≤◌, ◌∷◌, [], length, slice_index, IfSome, MatchOption};
+ghost use Rattle.script_api.specs.LineFields.{fields, unspaced, unspaced_end, behind_first, behind_third, behind_fifth};
 
-/// Whether a line is passed over: it is empty or begins with `#`.
-pub fn is_skipped(line: &[u8]) -> bool
-    ensures { result ≡ skips line.now }
-{
-    match line {
-        [] => true,
-        [byte, ..] => *byte == b'#',
-    }
-}
+use memchr::memchr;
 
 /// The text without the spaces in front.
 pub fn without_spaces(text: &str) -> &str
     ensures { result.now ≡ unspaced text.now }
 {
-    text.trim_start_matches(' ')
+    &text[spaces_in_front(text.as_bytes())..]
+}
+
+/// How many spaces stand in front of a text.
+fn spaces_in_front(text: &[u8]) -> usize
+    ensures within { result ≤ length text.now }
+    ensures spaces { (k : ℕ) → k < result → slice_index text.now k ≡ 32 }
+    ensures other { result < length text.now → slice_index text.now result ≢ 32 }
+{
+    text.iter()
+        .position(|byte| *byte != b' ')
+        .unwrap_or(text.len())
 }
 
 /// The text without the spaces at its end.
@@ -37,15 +40,16 @@ pub fn first_field(text: &str) -> Option<(&str, &str)>
     if text.is_empty() {
         return None;
     }
-    match text.split_once(' ') {
-        Some(cut) => Some(cut),
+    match memchr(b' ', text.as_bytes()) {
+        Some(end) => Some((&text[..end], &text[end + 1..])),
         None => Some((text, "")),
     }
 }
 
 /// The first three fields of a text and what stands behind them, or `None` where it has fewer.
 pub fn first_three(text: &str) -> Option<(&str, &str, &str, &str)>
-    ensures fields { MatchOption result (length (fields text.now) < 3) (λ cut. fields text.now ≡ cut.0.now ∷ cut.1.now ∷ cut.2.now ∷ fields cut.3.now) }
+    ensures fields { MatchOption result (length (fields text.now) < 3)
+        (λ cut. fields text.now ≡ cut.0.now ∷ cut.1.now ∷ cut.2.now ∷ fields cut.3.now) }
     ensures behind { IfSome result (λ cut. cut.3.now ≡ behind_third text.now) }
 {
     let (first, rest) = first_field(text)?;
@@ -56,7 +60,8 @@ pub fn first_three(text: &str) -> Option<(&str, &str, &str, &str)>
 
 /// The first five fields of a text and what stands behind them, or `None` where it has fewer.
 pub fn first_five(text: &str) -> Option<(&str, &str, &str, &str, &str, &str)>
-    ensures fields { MatchOption result (length (fields text.now) < 5) (λ cut. fields text.now ≡ cut.0.now ∷ cut.1.now ∷ cut.2.now ∷ cut.3.now ∷ cut.4.now ∷ fields cut.5.now) }
+    ensures fields { MatchOption result (length (fields text.now) < 5)
+        (λ cut. fields text.now ≡ cut.0.now ∷ cut.1.now ∷ cut.2.now ∷ cut.3.now ∷ cut.4.now ∷ fields cut.5.now) }
     ensures behind { IfSome result (λ cut. cut.5.now ≡ behind_fifth text.now) }
 {
     let (first, second, third, rest) = first_three(text)?;
@@ -87,7 +92,8 @@ pub fn two_fields(text: &str) -> Option<(&str, &str)>
 
 /// The three fields of a text, or `None` where it has another number of them.
 pub fn three_fields(text: &str) -> Option<(&str, &str, &str)>
-    ensures { MatchOption result (length (fields text.now) ≢ 3) (λ f. fields text.now ≡ f.0.now ∷ f.1.now ∷ f.2.now ∷ []) }
+    ensures { MatchOption result (length (fields text.now) ≢ 3)
+        (λ f. fields text.now ≡ f.0.now ∷ f.1.now ∷ f.2.now ∷ []) }
 {
     let (first, rest) = first_field(text)?;
     let (second, third) = two_fields(rest)?;
@@ -96,7 +102,8 @@ pub fn three_fields(text: &str) -> Option<(&str, &str, &str)>
 
 /// The four fields of a text, or `None` where it has another number of them.
 pub fn four_fields(text: &str) -> Option<(&str, &str, &str, &str)>
-    ensures { MatchOption result (length (fields text.now) ≢ 4) (λ f. fields text.now ≡ f.0.now ∷ f.1.now ∷ f.2.now ∷ f.3.now ∷ []) }
+    ensures { MatchOption result (length (fields text.now) ≢ 4)
+        (λ f. fields text.now ≡ f.0.now ∷ f.1.now ∷ f.2.now ∷ f.3.now ∷ []) }
 {
     let (first, rest) = first_field(text)?;
     let (second, third, fourth) = three_fields(rest)?;
@@ -105,7 +112,8 @@ pub fn four_fields(text: &str) -> Option<(&str, &str, &str, &str)>
 
 /// The five fields of a text, or `None` where it has another number of them.
 pub fn five_fields(text: &str) -> Option<(&str, &str, &str, &str, &str)>
-    ensures { MatchOption result (length (fields text.now) ≢ 5) (λ f. fields text.now ≡ f.0.now ∷ f.1.now ∷ f.2.now ∷ f.3.now ∷ f.4.now ∷ []) }
+    ensures { MatchOption result (length (fields text.now) ≢ 5)
+        (λ f. fields text.now ≡ f.0.now ∷ f.1.now ∷ f.2.now ∷ f.3.now ∷ f.4.now ∷ []) }
 {
     let (first, rest) = first_field(text)?;
     let (second, third, fourth, fifth) = four_fields(rest)?;

@@ -1,22 +1,20 @@
 //! What a line of a script spells.
 
-ghost use Rattle.std.specs.Prelude.{◌≡◌, IfOk, Some, None};
-ghost use Rattle.script_api.specs.Script.{script_line, spelled_by_text, spelled_by_other};
+ghost use Rattle.std.specs.Prelude.{◌≡◌, IfOk, MatchOption, Some, None};
+ghost use Rattle.script_api.specs.Script.{script_line, spelled_by_text, spelled_at, spelled_by_other};
 
 use crate::call::read_call;
 use crate::command::{OtherWord, call_word, other_word};
-use crate::fields::{first_field, is_skipped, without_end_spaces};
+use crate::fields::{first_field, without_end_spaces};
 use crate::number::number;
 use crate::other::is_in_form;
 use desk_types::Call;
 use query_words::NoMemory;
 use std::alloc::Global;
 
-/// What a line of a script spells.
+/// What a line of a script spells that is not passed over.
 #[derive(Debug, Drop)]
 pub enum ScriptLine {
-    /// Nothing: the line is empty or begins with `#`.
-    Skipped,
     /// A call at a moment, in seconds.
     Timed {
         /// The moment.
@@ -36,9 +34,6 @@ pub enum ScriptLine {
 pub fn read_line(alloc: Global, line: &[u8]) -> Result<ScriptLine, NoMemory>
     ensures { IfOk result (λ spelled. spelled ≡ script_line line.now) }
 {
-    if is_skipped(line) {
-        return Ok(ScriptLine::Skipped);
-    }
     let Ok(text) = str::from_utf8(line) else {
         return Ok(ScriptLine::Bad);
     };
@@ -53,22 +48,30 @@ pub fn read_line(alloc: Global, line: &[u8]) -> Result<ScriptLine, NoMemory>
 fn read_text(alloc: Global, text: &str) -> Result<ScriptLine, NoMemory>
     ensures { IfOk result (λ spelled. spelled ≡ spelled_by_text text.now) }
 {
-    let Some((moment, rest)) = first_field(text) else {
-        return Ok(ScriptLine::Bad);
-    };
-    let Some((command, rest)) = first_field(rest) else {
-        return Ok(ScriptLine::Bad);
-    };
-    let Some(moment) = number(moment) else {
+    let Some((moment, command, rest)) = timed_command(text) else {
         return Ok(ScriptLine::Bad);
     };
     let Some(word) = call_word(command) else {
         return Ok(read_other(other_word(command), rest));
     };
-    match read_call(alloc, word, rest)? {
-        Some(call) => Ok(ScriptLine::Timed { moment, call }),
+    match read_call(word, rest) {
+        Some(parts) => Ok(ScriptLine::Timed {
+            moment,
+            call: parts.call(alloc)?,
+        }),
         None => Ok(ScriptLine::Bad),
     }
+}
+
+/// The moment of a text, its command and what stands behind them, or `None` where it has no such two fields.
+#[tactic(auto, unfolding(crate::specs::Script::spelled_by_text))]
+fn timed_command(text: &str) -> Option<(u64, &str, &str)>
+    ensures { MatchOption result (spelled_by_text text.now ≡ ScriptLine.Bad)
+        (λ cut. spelled_by_text text.now ≡ spelled_at (Some cut.0) cut.1.now cut.2.now) }
+{
+    let (moment, rest) = first_field(text)?;
+    let (command, rest) = first_field(rest)?;
+    Some((number(moment)?, command, rest))
 }
 
 /// A line by a command of which no call can be made yet.

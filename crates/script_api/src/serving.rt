@@ -1,23 +1,19 @@
 //! The turns of a script: line by line, its calls are made and answered.
 
-ghost use Rattle.std.specs.Prelude.{◌≡◌, ◌⊎◌, ◌-◌, ◌≤◌, true, false, [], ◌++◌, Result, IfOk, IfErr, IfSome, OnOk, OnErr, MatchResult};
-ghost use Rattle.desk_types.specs.declared.reply.Reply.{Reply};
-ghost use Rattle.desk_types.specs.declared.entry.Fault.{Fault};
+ghost use Rattle.std.specs.Prelude.{◌≡◌, ◌<◌, ◌≤◌, true, [], IfOk, if◌then◌else◌};
+ghost use Rattle.desk_io.specs.Putting.{Puts};
 ghost use Rattle.desk_types.specs.Journal.{IsLegal};
-ghost use Rattle.desk_types.specs.Serving.{Serves};
-ghost use Rattle.desk_io.specs.Faults.{Rose};
-ghost use Rattle.desk_io.specs.NextLine.{ahead};
-ghost use Rattle.script_api.specs.ReplyLine.{answer_line};
-ghost use Rattle.script_api.specs.Script.{script_line};
-ghost use Rattle.script_api.specs.ScriptRun.{EndCause};
-ghost use Rattle.script_api.specs.ScriptTurn.{IsPut, IsBroken, ArePut, Takes, ReadsLine, IsLineServed, IsTurn, AreTurns};
+ghost use Rattle.script_api.specs.ScriptRun.{ScriptState, script_at};
+ghost use Rattle.script_api.specs.ScriptTurn.{midway, IsSoFar, IsAtLine, Goes, IsDone};
+ghost use Rattle.desk_io.specs.SourceView.{SourceView};
+ghost use Rattle.desk_io.specs.declared.limits.TheConstants.{INPUT_LINES_MAX};
+ghost use Rattle.script_api.specs.ScriptValue.{end_of};
 
-use crate::answers::AnswerLines;
 use crate::ending::ScriptEnd;
-use crate::limits::{INPUT_LINES_MAX, LINE_BYTES_MAX};
 use crate::line::{ScriptLine, read_line};
-use desk_io::{LineGot, LineReader, Sink, Source, WriteFault};
-use desk_types::{Call, Service};
+use crate::reply_line::put_answer_line;
+use desk_io::{LineFault, NextLine, NumberedLines, OutBuf, Sink, Source, WriteFault};
+use desk_types::Service;
 use query_words::NoMemory;
 use std::alloc::Global;
 
@@ -25,21 +21,23 @@ use std::alloc::Global;
 #[derive(Drop)]
 pub struct LineServing {
     pub alloc: Global,
-    pub reader: LineReader,
-    pub answers: AnswerLines,
+    pub lines: NumberedLines,
+    pub answers: OutBuf,
 }
 
 impl LineServing {
     /// Before the first line.
     pub fn new(alloc: Global) -> Result<LineServing, NoMemory>
-        ensures max { IfOk result (λ serving. serving.reader.max ≡ LINE_BYTES_MAX) }
-        ensures held { IfOk result (λ serving. serving.reader.held ≡ []) }
+        ensures lines {
+            IfOk result
+                (λ serving. serving.lines ≡ record { count = 0; held = []; text = []; is_ended = true })
+        }
         ensures waiting { IfOk result (λ serving. serving.answers ≡ []) }
     {
         Ok(LineServing {
             alloc,
-            reader: LineReader::new(alloc, LINE_BYTES_MAX)?,
-            answers: AnswerLines::new(alloc)?,
+            lines: NumberedLines::new(alloc)?,
+            answers: OutBuf::new(alloc)?,
         })
     }
 
@@ -49,169 +47,116 @@ impl LineServing {
         service: &mut V,
         input: &mut S,
         output: &mut T,
-    ) -> ScriptEnd
-        requires max { self.old.reader.max ≡ LINE_BYTES_MAX }
+    ) -> Result<ScriptEnd, WriteFault>
+        requires lines { self.old.lines ≡ record { count = 0; held = []; text = []; is_ended = true } }
         requires waiting { self.old.answers ≡ [] }
-        requires legal { IsLegal (V.opening service.old).settings (V.seen service.old) }
+        requires legal { IsLegal (V.service service.old).opening.settings (V.service service.old).seen }
         ensures home { V.home service.new ≡ V.home service.old }
-        ensures opening { V.opening service.new ≡ V.opening service.old }
-        ensures me { V.me service.new ≡ V.me service.old }
-        ensures sure { V.sure service.new ≡ V.sure service.old }
-        ensures turns { AreTurns (V.me service.old) (V.opening service.old) (V.seen service.old) (V.seen service.new) (ahead self.old.reader (S.source input.old).left) (S.source input.new).left (T.sink output.old) (T.sink output.new) self.new.answers result }
-        ensures all_read { result ≡ ScriptEnd.Ended → IfSome (S.source input.new).left (λ bytes. bytes ≡ []) }
-        ensures cause { EndCause (S.source input.old).faults (S.source input.new).faults (T.sink output.old).faults (T.sink output.new).faults result }
-        ensures read_faults { (S.source input.old).faults ≤ (S.source input.new).faults }
-        ensures write_faults { (T.sink output.old).faults ≤ (T.sink output.new).faults }
+        ensures done { IsDone (script_at (V.service service.old) (S.source input.old) (T.sink output.old))
+            (script_at (V.service service.new) (S.source input.new) (T.sink output.new)) result }
+        ensures sink_side { S.sink_side input.new ≡ S.sink_side input.old }
+        ensures source_side { T.source_side output.new ≡ T.source_side output.old }
     {
-        for number in 1..INPUT_LINES_MAX + 1 {
-            if let Err(end) = self.serve_line(number, service, input, output) {
-                return end;
+        loop {
+            if let Some(end) = self.serve_line(service, input, output)? {
+                self.answers.flush(output)?;
+                return Ok(end);
             }
         }
-        service.history_is_legal();
-        self.see_end(input, output)
     }
 
-    /// Serves the numbered line. `Ended` comes where the end stands in its place or ends it.
+    /// Serves the next line, and answers how it ends the script, if it does.
     fn serve_line<V: Service, S: Source, T: Sink>(
         &mut self,
-        number: u64,
         service: &mut V,
         input: &mut S,
         output: &mut T,
-    ) -> Result<(), ScriptEnd>
-        requires number { (1 ≤ number) × (number ≤ INPUT_LINES_MAX) }
-        requires max { self.old.reader.max ≡ LINE_BYTES_MAX }
-        ensures max { self.new.reader.max ≡ LINE_BYTES_MAX }
+    ) -> Result<Option<ScriptEnd>, WriteFault>
         ensures home { V.home service.new ≡ V.home service.old }
-        ensures opening { V.opening service.new ≡ V.opening service.old }
-        ensures me { V.me service.new ≡ V.me service.old }
-        ensures sure { V.sure service.new ≡ V.sure service.old }
-        ensures turn { IsTurn (V.me service.old) (V.opening service.old) (V.seen service.old) (V.seen service.new) (number - 1) (ahead self.old.reader (S.source input.old).left) (ahead self.new.reader (S.source input.new).left) self.new.reader.held (T.sink output.old) (T.sink output.new) self.old.answers self.new.answers result }
-        ensures all_read { result ≡ Err ScriptEnd.Ended → IfSome (S.source input.new).left (λ bytes. bytes ≡ []) }
-        ensures cause { IfErr result (EndCause (S.source input.old).faults (S.source input.new).faults (T.sink output.old).faults (T.sink output.new).faults) }
-        ensures read_faults { (S.source input.old).faults ≤ (S.source input.new).faults }
-        ensures write_faults { (T.sink output.old).faults ≤ (T.sink output.new).faults }
+        ensures turn { (start : ScriptState)
+            → IsSoFar start
+            (midway (script_at (V.service service.old) (S.source input.old) (T.sink output.old))
+            self.old.lines self.old.answers)
+            → Goes start
+            (midway (script_at (V.service service.new) (S.source input.new) (T.sink output.new))
+            self.new.lines self.new.answers)
+            result }
+        ensures counts { result ≡ Ok None →
+            (self.old.lines.count < self.new.lines.count) × (self.new.lines.count ≤ INPUT_LINES_MAX) }
+        ensures sink_side { S.sink_side input.new ≡ S.sink_side input.old }
+        ensures source_side { T.source_side output.new ≡ T.source_side output.old }
     {
-        service.history_is_legal();
-        let Ok(()) = self.flush_unless_held(output) else {
-            return Err(ScriptEnd::WriteFault);
-        };
-        self.next_line(number, input)?;
-        self.serve_text(number, service, output)?;
-        self.go_on()
-    }
-
-    /// Sees that the end stands behind the last line that may be.
-    fn see_end<S: Source, T: Sink>(&mut self, input: &mut S, output: &mut T) -> ScriptEnd
-        requires max { self.old.reader.max ≡ LINE_BYTES_MAX }
-        ensures takes { Takes INPUT_LINES_MAX (ahead self.old.reader (S.source input.old).left) (ahead self.new.reader (S.source input.new).left) self.new.reader.held [] (Err result) }
-        ensures puts { ArePut (T.sink output.old) (T.sink output.new) self.old.answers self.new.answers (Err result) }
-        ensures all_read { result ≡ ScriptEnd.Ended → IfSome (S.source input.new).left (λ bytes. bytes ≡ []) }
-        ensures cause { EndCause (S.source input.old).faults (S.source input.new).faults (T.sink output.old).faults (T.sink output.new).faults result }
-        ensures read_faults { (S.source input.old).faults ≤ (S.source input.new).faults }
-        ensures write_faults { (T.sink output.old).faults ≤ (T.sink output.new).faults }
-    {
-        let Ok(()) = self.flush_unless_held(output) else {
-            return ScriptEnd::WriteFault;
-        };
-        match self.reader.next(input) {
-            LineGot::End => ScriptEnd::Ended,
-            LineGot::Line | LineGot::TooLong => ScriptEnd::TooManyLines,
-            LineGot::ReadFault => ScriptEnd::ReadFault,
+        self.flush_before_read(output)?;
+        match self.lines.next(input) {
+            NextLine::Text => self.serve_text(service, output),
+            NextLine::Skipped => Ok(self.end_of_last()),
+            NextLine::End => Ok(Some(ScriptEnd::Ended)),
+            NextLine::Fault(fault) => Ok(Some(end_of_fault(fault))),
+            NextLine::ReadFault => Ok(Some(ScriptEnd::ReadFault)),
         }
     }
 
     /// Writes the lines that wait before a read, which comes where no whole line is held.
-    fn flush_unless_held<T: Sink>(&mut self, output: &mut T) -> Result<(), WriteFault>
-        ensures reader { self.new.reader ≡ self.old.reader }
-        ensures put { OnOk result (IsPut (T.sink output.old) (T.sink output.new) self.old.answers self.new.answers) }
-        ensures fault { OnErr result (IsBroken (T.sink output.old) (T.sink output.new) self.old.answers) }
-        ensures cause { OnErr result (Rose (T.sink output.old).faults (T.sink output.new).faults) }
-        ensures write_faults { (T.sink output.old).faults ≤ (T.sink output.new).faults }
+    fn flush_before_read<T: Sink>(&mut self, output: &mut T) -> Result<(), WriteFault>
+        ensures lines { self.new.lines ≡ self.old.lines }
+        ensures puts { Puts (T.sink output.old) (T.sink output.new) self.old.answers self.new.answers [] result }
+        ensures source_side { T.source_side output.new ≡ T.source_side output.old }
     {
-        if self.reader.has_line() {
+        if self.lines.has_line() {
             return Ok(());
         }
         self.answers.flush(output)
     }
 
-    /// Reads the numbered line.
-    fn next_line<S: Source>(&mut self, number: u64, input: &mut S) -> Result<(), ScriptEnd>
-        requires number { (1 ≤ number) × (number ≤ INPUT_LINES_MAX) }
-        requires max { self.old.reader.max ≡ LINE_BYTES_MAX }
-        ensures max { self.new.reader.max ≡ LINE_BYTES_MAX }
-        ensures answers { self.new.answers ≡ self.old.answers }
-        ensures reads { ReadsLine (number - 1) (ahead self.old.reader (S.source input.old).left) (ahead self.new.reader (S.source input.new).left) self.new.reader result }
-        ensures all_read { result ≡ Err ScriptEnd.Ended → IfSome (S.source input.new).left (λ bytes. bytes ≡ []) }
-        ensures cause { IfErr result (EndCause (S.source input.old).faults (S.source input.new).faults 0 0) }
-        ensures read_faults { (S.source input.old).faults ≤ (S.source input.new).faults }
-    {
-        match self.reader.next(input) {
-            LineGot::Line => Ok(()),
-            LineGot::End => Err(ScriptEnd::Ended),
-            LineGot::TooLong => Err(ScriptEnd::LongLine(number)),
-            LineGot::ReadFault => Err(ScriptEnd::ReadFault),
-        }
-    }
-
-    /// Makes the call of the numbered line that was read, and puts the line of its answer.
+    /// Serves the line that was read, and answers how it ends the script, if it does.
     fn serve_text<V: Service, T: Sink>(
         &mut self,
-        number: u64,
         service: &mut V,
         output: &mut T,
-    ) -> Result<(), ScriptEnd>
-        requires legal { IsLegal (V.opening service.old).settings (V.seen service.old) }
-        ensures reader { self.new.reader ≡ self.old.reader }
+    ) -> Result<Option<ScriptEnd>, WriteFault>
+        ensures lines { self.new.lines ≡ self.old.lines }
         ensures home { V.home service.new ≡ V.home service.old }
-        ensures opening { V.opening service.new ≡ V.opening service.old }
-        ensures me { V.me service.new ≡ V.me service.old }
-        ensures sure { V.sure service.new ≡ V.sure service.old }
-        ensures served { IsLineServed (V.me service.old) (V.opening service.old) (V.seen service.old) (V.seen service.new) number (script_line self.old.reader.line) (T.sink output.old) (T.sink output.new) self.old.answers self.new.answers result }
-        ensures cause { IfErr result (EndCause 0 0 (T.sink output.old).faults (T.sink output.new).faults) }
-        ensures write_faults { (T.sink output.old).faults ≤ (T.sink output.new).faults }
+        ensures turn { (start : ScriptState) → (source : SourceView)
+            → IsAtLine start
+            (midway (script_at (V.service service.old) source (T.sink output.old))
+            self.old.lines self.old.answers)
+            → Goes start
+            (midway (script_at (V.service service.new) source (T.sink output.new))
+            self.new.lines self.new.answers)
+            result }
+        ensures source_side { T.source_side output.new ≡ T.source_side output.old }
     {
-        match read_line(self.alloc, self.reader.line()) {
-            Ok(ScriptLine::Skipped) => Ok(()),
+        match read_line(self.alloc, self.lines.text()) {
             Ok(ScriptLine::Timed { moment, call }) => {
-                make_call(service, &mut self.answers, output, moment, call)
+                let answer = service.call(moment, call);
+                put_answer_line(&mut self.answers, output, &answer)?;
+                Ok(self.end_of_last())
             }
-            Ok(ScriptLine::NotBuilt) => Err(ScriptEnd::NotBuilt(number)),
-            Ok(ScriptLine::Bad) => Err(ScriptEnd::BadLine(number)),
-            Err(_) => Err(ScriptEnd::NoMemory),
+            Ok(ScriptLine::NotBuilt) => Ok(Some(ScriptEnd::NotBuilt(self.lines.number()))),
+            Ok(ScriptLine::Bad) => Ok(Some(ScriptEnd::BadLine(self.lines.number()))),
+            Err(_) => Ok(Some(ScriptEnd::NoMemory)),
         }
     }
 
-    /// Goes on behind a line that a line feed ended; no other is the last one.
-    fn go_on(&self) -> Result<(), ScriptEnd>
-        ensures { MatchResult result (λ _. self.now.reader.is_ended ≡ true) (λ end. (end ≡ ScriptEnd.Ended) × (self.now.reader.is_ended ≡ false)) }
+    /// The end of a script behind a line that no line feed ended, since no other follows it.
+    fn end_of_last(&self) -> Option<ScriptEnd>
+        ensures { result ≡ (if self.now.lines.is_ended then None else Some ScriptEnd.Ended) }
     {
-        if self.reader.is_ended() {
-            Ok(())
+        if self.lines.is_last() {
+            Some(ScriptEnd::Ended)
         } else {
-            Err(ScriptEnd::Ended)
+            None
         }
     }
 }
 
-/// Makes a call and puts the line of its answer.
-fn make_call<V: Service, T: Sink>(
-    service: &mut V,
-    answers: &mut AnswerLines,
-    output: &mut T,
-    moment: u64,
-    call: Call,
-) -> Result<(), ScriptEnd>
-    ensures home { V.home service.new ≡ V.home service.old }
-    ensures opening { V.opening service.new ≡ V.opening service.old }
-    ensures me { V.me service.new ≡ V.me service.old }
-    ensures sure { V.sure service.new ≡ V.sure service.old }
-    ensures serves { (answer : Result Reply Fault) × Serves (V.me service.old) (V.opening service.old) (V.seen service.old) moment call answer (V.seen service.new) × ArePut (T.sink output.old) (T.sink output.new) (answers.old ++ answer_line answer) answers.new result }
-    ensures failed { IfErr result (λ end. (end ≡ ScriptEnd.WriteFault) ⊎ (end ≡ ScriptEnd.NoMemory)) }
-    ensures cause { IfErr result (EndCause 0 0 (T.sink output.old).faults (T.sink output.new).faults) }
-    ensures write_faults { (T.sink output.old).faults ≤ (T.sink output.new).faults }
+/// How a script ends with a line that goes past a limit.
+fn end_of_fault(fault: LineFault) -> ScriptEnd
+    ensures { result ≡ end_of (Err fault) }
 {
-    let answer = service.call(moment, call);
-    answers.put(output, &answer)
+    match fault {
+        LineFault::BadLine(number) => ScriptEnd::BadLine(number),
+        LineFault::LongLine(number) => ScriptEnd::LongLine(number),
+        LineFault::TooManyLines => ScriptEnd::TooManyLines,
+    }
 }

@@ -1,11 +1,18 @@
-use Rattle.script_api.proofs.Finishing.{run-end, run-none}
+use Rattle.std.proofs.Common.{◌≡◌, refl}
+use Rattle.desk_types.proofs.ServedInTurn.{AreServed-stays}
+use Rattle.script_api.proofs.Finishing.{run-none}
 use Rattle.script_api.proofs.run.script.Goals as goal
 
 pub returns-in_default-clause-run : goal.returns-in_default-clause-run
-returns-in_default-clause-run g c = run-none _ _ _ (g.S.Source.source c.args.input.now) _ c.history_is_legal.ensures.legal (g.met.T.Sink.taken_fits c.args.output.now)
+returns-in_default-clause-run g c =
+    run-none (g.V.Service.service c.args.service.now) (g.S.Source.source c.args.input.now) (g.T.Sink.sink c.args.output.now) c.history_is_legal.ensures.legal (g.met.T.Sink.taken_fits c.args.output.now)
 
-pub returns-clause-run : goal.returns-clause-run
-returns-clause-run g c =
-    run-end _ _ _ _ c.in-Ok.serving.reader (g.S.Source.source c.args.input.now) (g.S.Source.source c.serve_lines-end.new.input)
-    (g.T.Sink.sink c.args.output.now) (g.T.Sink.sink c.serve_lines-end.new.output) (g.T.Sink.sink c.finish.new.output)
-    c.serve_lines-end.new.self.answers c.serve_lines-end.result c.finish.result c.in-Ok.ensures.held c.serve_lines-end.ensures.turns c.finish.ensures.finishes
+pub returns-in-Ok-serve_lines-clause-service : goal.returns-in-Ok-serve_lines-clause-service
+returns-in-Ok-serve_lines-clause-service g c =
+    let run = c.in-Ok-serve_lines.ensures.done.run in
+    AreServed-stays (g.V.Service.service c.args.service.now) (g.V.Service.service c.serve_lines.new.service) run.calls run.results run.served
+
+pub returns-clause-service : goal.returns-clause-service
+returns-clause-service g c =
+    let run = c.in-Err.ensures.done.run in
+    AreServed-stays (g.V.Service.service c.args.service.now) (g.V.Service.service c.serve_lines.new.service) run.calls run.results run.served

@@ -8,6 +8,7 @@ invariant-loop-size g l = record {
   line : l.self.line ≡ [];
   ahead : ahead l.self (g.S.Source.source l.source).left ≡ ahead l.fn.self (g.S.Source.source l.fn.source).left;
   faults : (g.S.Source.source l.fn.source).faults ≤ (g.S.Source.source l.source).faults;
+  sink_side : g.S.Source.sink_side l.source ≡ g.S.Source.sink_side l.fn.source;
 }
 
 abbrev pub decreases-loop-size : goal.decreases-loop-size

@@ -1,51 +1,61 @@
-use Rattle.std.proofs.Common.{◌-◌, refl}
+use Rattle.std.proofs.Common.{◌≡◌, ◌≢◌, ◌∙◌, Ok, Err, refl, sym, ap, subst}
 use Rattle.std.proofs.lemmas.Result.{err_from_is_err_and}
-use Rattle.desk_io.specs.NextLine.{ahead}
-use Rattle.script_api.proofs.Making.{turn-broken, turn-unread, turn-ended, turn-went, went-none}
-use Rattle.desk_io.proofs.Ahead.{none_left}
+use Rattle.script_api.specs.ScriptRun.{script_at}
+use Rattle.script_api.specs.ScriptTurn.{midway, Goes, IsEnding}
+use Rattle.script_api.proofs.Turning.{turn-flushed, turn-unflushed, turn-text, turn-told, turn-cut, turn-skipped, not-ended}
 use Rattle.script_api.proofs.serving.LineServing.serve_line.Goals as goal
 
-pub returns-in_default-clause-turn : goal.returns-in_default-clause-turn
-returns-in_default-clause-turn g c =
-    turn-broken (g.V.Service.me c.args.service.now) (g.V.Service.opening c.args.service.now) (g.V.Service.seen c.args.service.now)
-    (c.args.number - 1) (ahead c.args.self.now.reader (g.S.Source.source c.args.input.now).left) (ahead c.flush_unless_held.new.self.reader (g.S.Source.source c.args.input.now).left) c.flush_unless_held.new.self.reader.held
-    (g.T.Sink.sink c.args.output.now) (g.T.Sink.sink c.flush_unless_held.new.output)
-    c.args.self.now.answers c.flush_unless_held.new.self.answers c.history_is_legal.ensures.legal c.in_default.ensures.fault
-
-pub returns-in_err-next_line-clause-turn : goal.returns-in_err-next_line-clause-turn
-returns-in_err-next_line-clause-turn g c =
+pub returns-in_err-flush_before_read-clause-turn : goal.returns-in_err-flush_before_read-clause-turn
+returns-in_err-flush_before_read-clause-turn g c = λ start so_far.
     let p = err_from_is_err_and c.from_residual.result c.from_residual.ensures.1 in
-    rw (p.1, p.2, c.in_err-next_line.ensures.answers)
-    (turn-unread (g.V.Service.me c.args.service.now) (g.V.Service.opening c.args.service.now) (g.V.Service.seen c.args.service.now)
-    (c.args.number - 1) (ahead c.args.self.now.reader (g.S.Source.source c.args.input.now).left) (ahead c.next_line.new.self.reader (g.S.Source.source c.next_line.new.input).left) c.next_line.new.self.reader
-    (g.T.Sink.sink c.args.output.now) (g.T.Sink.sink c.flush_unless_held.new.output)
-    c.args.self.now.answers c.flush_unless_held.new.self.answers (g.S.Source.source c.args.input.now).faults (g.S.Source.source c.next_line.new.input).faults c.in_err-next_line.field-0.0
-    c.history_is_legal.ensures.legal (rw c.in-Ok.ensures.reader at c.in_err-next_line.ensures.reads) c.in-Ok.ensures.put c.in_err-next_line.ensures.cause)
+    let source = g.S.Source.source c.args.input.now in
+    rw p.1
+    (turn-unflushed start _ source source _ _ c.args.self.now.lines c.args.self.now.lines _ _ so_far c.in_err-flush_before_read.field-0.0 c.in_err-flush_before_read.ensures.puts)
 
-pub returns-in_err-serve_text-clause-turn : goal.returns-in_err-serve_text-clause-turn
-returns-in_err-serve_text-clause-turn g c =
-    let p = err_from_is_err_and c.from_residual-in_err-serve_text.result c.from_residual-in_err-serve_text.ensures.1 in
-    rw (p.1, p.2, c.in_err-serve_text.ensures.reader)
-    (turn-ended (g.V.Service.me c.args.service.now) (g.V.Service.opening c.args.service.now) (g.V.Service.seen c.args.service.now) (g.V.Service.seen c.serve_text.new.service)
-    c.args.number (ahead c.args.self.now.reader (g.S.Source.source c.args.input.now).left) (ahead c.next_line.new.self.reader (g.S.Source.source c.next_line.new.input).left)
-    c.next_line.new.self.reader c.next_line.new.self.reader.line c.next_line.new.self.reader.held
-    (g.T.Sink.sink c.args.output.now) (g.T.Sink.sink c.flush_unless_held.new.output) (g.T.Sink.sink c.serve_text.new.output)
-    c.args.self.now.answers c.flush_unless_held.new.self.answers c.serve_text.new.self.answers c.in_err-serve_text.field-0.0
-    c.requires.number.0 c.requires.number.1 (rw c.in-Ok.ensures.reader at c.in_ok-next_line.ensures.reads) refl c.in-Ok.ensures.put (rw c.in_ok-next_line.ensures.answers at c.in_err-serve_text.ensures.served))
+pub returns-in-Text-clause-turn : goal.returns-in-Text-clause-turn
+returns-in-Text-clause-turn g c = λ start so_far.
+    let source = g.S.Source.source c.args.input.now in
+    let lines = c.flush_before_read.new.self.lines in
+    let waiting = c.flush_before_read.new.self.answers in
+    let sink = g.T.Sink.sink c.flush_before_read.new.output in
+    let flushed = turn-flushed start _ source source _ sink _ lines _ waiting so_far c.in_ok-flush_before_read.ensures.lines c.in_ok-flush_before_read.ensures.puts in
+    c.serve_text.ensures.turn start (g.S.Source.source c.next.new.source)
+    (turn-text start _ source (g.S.Source.source c.next.new.source) sink sink lines c.next.new.self waiting waiting flushed c.in-Text.ensures.line c.in-Text.ensures.faults c.in-Text.ensures.passed)
 
-pub returns-clause-turn : goal.returns-clause-turn
-returns-clause-turn g c =
-    rw c.in_ok-serve_text.ensures.reader
-    (turn-went (g.V.Service.me c.args.service.now) (g.V.Service.opening c.args.service.now) (g.V.Service.seen c.args.service.now) (g.V.Service.seen c.serve_text.new.service)
-    c.args.number (ahead c.args.self.now.reader (g.S.Source.source c.args.input.now).left) (ahead c.next_line.new.self.reader (g.S.Source.source c.next_line.new.input).left)
-    c.next_line.new.self.reader c.next_line.new.self.reader.line c.next_line.new.self.reader.held
-    (g.T.Sink.sink c.args.output.now) (g.T.Sink.sink c.flush_unless_held.new.output) (g.T.Sink.sink c.serve_text.new.output)
-    c.args.self.now.answers c.flush_unless_held.new.self.answers c.serve_text.new.self.answers c.go_on.result
-    c.requires.number.0 c.requires.number.1 (rw c.in-Ok.ensures.reader at c.in_ok-next_line.ensures.reads) refl c.in-Ok.ensures.put (rw c.in_ok-next_line.ensures.answers at c.in_ok-serve_text.ensures.served)
-    (rw c.in_ok-serve_text.ensures.reader at c.go_on.ensures))
+pub returns-in-Skipped-clause-turn : goal.returns-in-Skipped-clause-turn
+returns-in-Skipped-clause-turn g c = λ start so_far.
+    let source = g.S.Source.source c.args.input.now in
+    let lines = c.flush_before_read.new.self.lines in
+    let waiting = c.flush_before_read.new.self.answers in
+    let sink = g.T.Sink.sink c.flush_before_read.new.output in
+    let flushed = turn-flushed start _ source source _ sink _ lines _ waiting so_far c.in_ok-flush_before_read.ensures.lines c.in_ok-flush_before_read.ensures.puts in
+    subst (λ r. Goes start (midway (script_at (g.V.Service.service c.args.service.now) (g.S.Source.source c.next.new.source) sink) c.next.new.self waiting) (Ok r)) (sym c.end_of_last.ensures)
+    (turn-skipped start _ source (g.S.Source.source c.next.new.source) sink lines c.next.new.self waiting flushed c.in-Skipped.ensures.line c.in-Skipped.ensures.faults c.in-Skipped.ensures.passed)
 
-pub returns-clause-all_read : goal.returns-clause-all_read
-returns-clause-all_read g c =
-    λ is. none_left c.next_line.new.self.reader (g.S.Source.source c.next_line.new.input).left
-    (went-none (c.args.number - 1) (ahead c.args.self.now.reader (g.S.Source.source c.args.input.now).left) (ahead c.next_line.new.self.reader (g.S.Source.source c.next_line.new.input).left) c.next_line.new.self.reader c.go_on.result
-    (rw c.in-Ok.ensures.reader at c.in_ok-next_line.ensures.reads) (rw c.in_ok-serve_text.ensures.reader at c.go_on.ensures) is)
+pub returns-in-End-clause-turn : goal.returns-in-End-clause-turn
+returns-in-End-clause-turn g c = λ start so_far.
+    let source = g.S.Source.source c.args.input.now in
+    let lines = c.flush_before_read.new.self.lines in
+    let waiting = c.flush_before_read.new.self.answers in
+    let sink = g.T.Sink.sink c.flush_before_read.new.output in
+    let flushed = turn-flushed start _ source source _ sink _ lines _ waiting so_far c.in_ok-flush_before_read.ensures.lines c.in_ok-flush_before_read.ensures.puts in
+    turn-told start _ source (g.S.Source.source c.next.new.source) sink sink lines c.next.new.self waiting waiting flushed (Ok c.next.new.self.count) c.in-End.ensures.told c.in-End.ensures.faults (λ _. c.in-End.ensures.line)
+
+pub returns-in-Fault-clause-turn : goal.returns-in-Fault-clause-turn
+returns-in-Fault-clause-turn g c = λ start so_far.
+    let source = g.S.Source.source c.args.input.now in
+    let lines = c.flush_before_read.new.self.lines in
+    let waiting = c.flush_before_read.new.self.answers in
+    let sink = g.T.Sink.sink c.flush_before_read.new.output in
+    let flushed = turn-flushed start _ source source _ sink _ lines _ waiting so_far c.in_ok-flush_before_read.ensures.lines c.in_ok-flush_before_read.ensures.puts in
+    rw c.end_of_fault.ensures
+    (turn-told start _ source (g.S.Source.source c.next.new.source) sink sink lines c.next.new.self waiting waiting flushed (Err c.in-Fault.fault) c.in-Fault.ensures.told c.in-Fault.ensures.faults (λ is. absurd (not-ended c.in-Fault.fault is)))
+
+pub returns-in-ReadFault-clause-turn : goal.returns-in-ReadFault-clause-turn
+returns-in-ReadFault-clause-turn g c = λ start so_far.
+    let source = g.S.Source.source c.args.input.now in
+    let lines = c.flush_before_read.new.self.lines in
+    let waiting = c.flush_before_read.new.self.answers in
+    let sink = g.T.Sink.sink c.flush_before_read.new.output in
+    let flushed = turn-flushed start _ source source _ sink _ lines _ waiting so_far c.in_ok-flush_before_read.ensures.lines c.in_ok-flush_before_read.ensures.puts in
+    turn-cut start _ source (g.S.Source.source c.next.new.source) sink sink lines c.next.new.self waiting waiting flushed c.in-ReadFault.ensures.line.0 c.in-ReadFault.ensures.line.1 c.in-ReadFault.ensures.cause c.in-ReadFault.ensures.faults

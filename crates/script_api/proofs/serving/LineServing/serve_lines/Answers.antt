@@ -1,53 +1,30 @@
-use Rattle.std.proofs.Common.{◌≡◌, ◌+◌, ◌-◌, ◌∙◌, ℕ, refl, subst, arith, Err}
-use Rattle.desk_io.specs.NextLine.{ahead}
-use Rattle.script_api.specs.declared.limits.TheConstants.{INPUT_LINES_MAX}
-use Rattle.script_api.proofs.Looping.{AreTurnsSoFar, so_far-none, so_far-more, so_far-end}
-use Rattle.script_api.proofs.Making.{turn-no_call}
+use Rattle.std.proofs.Common.{◌≡◌, refl}
+use Rattle.std.proofs.lemmas.Result.{err_from_is_err_and}
+use Rattle.script_api.specs.ScriptRun.{script_at}
+use Rattle.script_api.proofs.Finishing.{so_far-none, ends-flushed, ends-unflushed}
 use Rattle.script_api.proofs.serving.LineServing.serve_lines.Goals as goal
 
-pub loop-number-init : goal.loop-number-init
-loop-number-init g c = record {
-  max = c.requires.max;
+pub loop-end-init : goal.loop-end-init
+loop-end-init g c = record {
   home = refl;
-  opening = refl;
-  me = refl;
-  sure = refl;
-  turns = so_far-none _ _ _ (ahead c.args.self.now.reader (g.S.Source.source c.args.input.now).left) (g.T.Sink.sink c.args.output.now) c.args.self.now.answers
-      c.requires.legal (g.met.T.Sink.taken_fits c.args.output.now) c.requires.waiting;
-  read_faults = omega arith;
-  write_faults = omega arith;
+  so_far = so_far-none (g.V.Service.service c.args.service.now) (g.S.Source.source c.args.input.now) (g.T.Sink.sink c.args.output.now) c.args.self.now.lines c.args.self.now.answers
+      c.requires.legal (g.met.T.Sink.taken_fits c.args.output.now) c.requires.lines c.requires.waiting;
+  sink_side = refl;
+  source_side = refl;
 }
 
-pub loop-number-preserved : goal.loop-number-preserved
-loop-number-preserved g c =
-    let before = c.loop-number.invariant in
-    let same : c.loop-number.number - 1 + 1 ≡ c.loop-number.number + 1 - 1 = omega arith in
-    record {
-      max = c.serve_line.ensures.max;
-      home = c.serve_line.ensures.home ∙ before.home;
-      opening = c.serve_line.ensures.opening ∙ before.opening;
-      me = c.serve_line.ensures.me ∙ before.me;
-      sure = c.serve_line.ensures.sure ∙ before.sure;
-      turns = subst (λ (n : ℕ). AreTurnsSoFar (g.V.Service.me c.args.service.now) (g.V.Service.opening c.args.service.now) (g.V.Service.seen c.args.service.now) (g.V.Service.seen c.serve_line.new.service) n
-          (ahead c.args.self.now.reader (g.S.Source.source c.args.input.now).left) (ahead c.serve_line.new.self.reader (g.S.Source.source c.serve_line.new.input).left)
-          (g.T.Sink.sink c.args.output.now) (g.T.Sink.sink c.serve_line.new.output) c.serve_line.new.self.answers) same
-          (so_far-more _ _ _ _ _ (c.loop-number.number - 1) (ahead c.args.self.now.reader (g.S.Source.source c.args.input.now).left) (ahead c.loop-number.self.reader (g.S.Source.source c.loop-number.input).left) (ahead c.serve_line.new.self.reader (g.S.Source.source c.serve_line.new.input).left)
-          _ _ _ c.loop-number.self.answers c.serve_line.new.self.answers c.serve_line.new.self.reader.held before.turns (rw (before.me, before.opening) at c.in_default.ensures.turn));
-      read_faults = omega (arith, c.serve_line.ensures.read_faults);
-      write_faults = omega (arith, c.serve_line.ensures.write_faults);
-    }
+pub returns-in_err-flush-clause-done : goal.returns-in_err-flush-clause-done
+returns-in_err-flush-clause-done g c =
+    let start = script_at (g.V.Service.service c.args.service.now) (g.S.Source.source c.args.input.now) (g.T.Sink.sink c.args.output.now) in
+    let p = err_from_is_err_and c.from_residual-in_err-flush.result c.from_residual-in_err-flush.ensures.1 in
+    let ends = rw c.in-Some.is at (c.in_ok-end.ensures.turn start c.loop-end.invariant.so_far) in
+    rw p.1
+    (ends-unflushed start (g.V.Service.service c.serve_line.new.service) (g.S.Source.source c.serve_line.new.input) (g.T.Sink.sink c.serve_line.new.output) (g.T.Sink.sink c.flush.new.sink)
+    c.serve_line.new.self.lines c.serve_line.new.self.answers c.flush.new.self c.in-Some.end ends c.in_err-flush.field-0.0 c.in_err-flush.ensures.flushes)
 
-pub returns-in-Err-clause-turns : goal.returns-in-Err-clause-turns
-returns-in-Err-clause-turns g c =
-    let before = c.loop-number.invariant in
-    so_far-end _ _ _ _ _ (c.loop-number.number - 1) (ahead c.args.self.now.reader (g.S.Source.source c.args.input.now).left) (ahead c.loop-number.self.reader (g.S.Source.source c.loop-number.input).left) (ahead c.serve_line.new.self.reader (g.S.Source.source c.serve_line.new.input).left)
-    _ _ _ c.loop-number.self.answers c.serve_line.new.self.answers c.serve_line.new.self.reader (g.S.Source.source c.serve_line.new.input).left c.in-Err.end before.turns (rw (before.me, before.opening) at c.in-Err.ensures.turn)
-
-pub returns-clause-turns : goal.returns-clause-turns
-returns-clause-turns g c =
-    let before = c.loop-number.invariant in
-    let last : c.loop-number.number - 1 ≡ INPUT_LINES_MAX = omega arith in
-    so_far-end _ _ _ _ _ INPUT_LINES_MAX (ahead c.args.self.now.reader (g.S.Source.source c.args.input.now).left) (ahead c.loop-number.self.reader (g.S.Source.source c.loop-number.input).left) (ahead c.see_end.new.self.reader (g.S.Source.source c.see_end.new.input).left)
-    _ _ _ c.loop-number.self.answers c.see_end.new.self.answers c.see_end.new.self.reader (g.S.Source.source c.see_end.new.input).left c.see_end.result (rw last at before.turns)
-    (turn-no_call _ _ _ INPUT_LINES_MAX (ahead c.loop-number.self.reader (g.S.Source.source c.loop-number.input).left) (ahead c.see_end.new.self.reader (g.S.Source.source c.see_end.new.input).left) c.see_end.new.self.reader.held
-    _ _ c.loop-number.self.answers c.see_end.new.self.answers (Err c.see_end.result) (rw before.opening at c.history_is_legal.ensures.legal) c.see_end.ensures.takes c.see_end.ensures.puts)
+pub returns-in-Some-clause-done : goal.returns-in-Some-clause-done
+returns-in-Some-clause-done g c =
+    let start = script_at (g.V.Service.service c.args.service.now) (g.S.Source.source c.args.input.now) (g.T.Sink.sink c.args.output.now) in
+    let ends = rw c.in-Some.is at (c.in_ok-end.ensures.turn start c.loop-end.invariant.so_far) in
+    ends-flushed start (g.V.Service.service c.serve_line.new.service) (g.S.Source.source c.serve_line.new.input) (g.T.Sink.sink c.serve_line.new.output) (g.T.Sink.sink c.flush.new.sink)
+    c.serve_line.new.self.lines c.serve_line.new.self.answers c.flush.new.self c.in-Some.end ends c.in_ok-flush.ensures.flushes

@@ -1,41 +1,41 @@
-use Rattle.std.proofs.Common.{◌≡◌, ◌∙◌, Ok, Err, inr, refl, sym, ap}
-use Rattle.script_api.specs.declared.ending.ScriptEnd.TheVariants.{NotBuilt, BadLine, NoMemory}
-use Rattle.script_api.specs.declared.line.ScriptLine.TheVariants.{Skipped, Timed, NotBuilt as not_built, Bad}
+use Rattle.std.proofs.Common.{◌≡◌, ◌≢◌, ◌∙◌, Ok, refl, sym, ap, subst}
+use Rattle.std.proofs.lemmas.Result.{err_from_is_err_and}
+use Rattle.script_api.specs.declared.line.ScriptLine.TheVariants.{Timed, NotBuilt, Bad}
+use Rattle.script_api.specs.declared.ending.ScriptEnd.TheVariants as end
 use Rattle.script_api.specs.Script.{script_line}
-use Rattle.script_api.specs.ScriptValue.{calls_of, form_end}
-use Rattle.script_api.proofs.Putting.{IsPut-same, ArePut-no_memory}
-use Rattle.script_api.proofs.Making.{serves-none, tells}
+use Rattle.script_api.specs.ScriptRun.{script_at}
+use Rattle.script_api.specs.ScriptTurn.{midway, Goes}
+use Rattle.script_api.specs.ScriptValue.{form_end}
+use Rattle.script_api.proofs.Turning.{text-ends, text-unread, text-answered, text-broken}
 use Rattle.script_api.proofs.serving.LineServing.serve_text.Goals as goal
 
-pub returns-in-Ok-Skipped-clause-served : goal.returns-in-Ok-Skipped-clause-served
-returns-in-Ok-Skipped-clause-served g c =
-    let is : Skipped ≡ script_line c.args.self.now.reader.line = rw c.in-Ok-Skipped.field-0-is at c.in-Ok-Skipped.ensures ∙ ap script_line c.line.ensures in
-    serves-none _ _ _ c.args.number (script_line c.args.self.now.reader.line) (g.T.Sink.sink c.args.output.now) c.args.self.now.answers (Ok tt) c.requires.legal
-    (sym (ap (form_end c.args.number) is), ap calls_of is)
-    (IsPut-same _ c.args.self.now.answers c.args.self.now.answers (g.met.T.Sink.taken_fits c.args.output.now) refl)
+pub returns-in_err-put_answer_line-in-Ok-Timed-clause-turn : goal.returns-in_err-put_answer_line-in-Ok-Timed-clause-turn
+returns-in_err-put_answer_line-in-Ok-Timed-clause-turn g c = λ start source at_line.
+    let is : Timed c.in-Ok-Timed.moment c.in-Ok-Timed.call ≡ script_line c.args.self.now.lines.text = rw c.in-Ok-Timed.field-0-is at c.in-Ok-Timed.ensures ∙ ap script_line c.text.ensures in
+    let p = err_from_is_err_and c.from_residual.result c.from_residual.ensures.1 in
+    rw p.1
+    (text-broken start _ _ source _ _ c.args.self.now.lines _ _ at_line c.in-Ok-Timed.moment c.in-Ok-Timed.call (sym is) c.call-answer.result c.call-answer.ensures.serves c.in_err-put_answer_line-in-Ok-Timed.field-0.0 c.in_err-put_answer_line-in-Ok-Timed.ensures.puts)
 
-pub returns-in-Ok-Timed-clause-served : goal.returns-in-Ok-Timed-clause-served
-returns-in-Ok-Timed-clause-served g c =
-    let is : Timed c.in-Ok-Timed.moment c.in-Ok-Timed.call ≡ script_line c.args.self.now.reader.line = rw c.in-Ok-Timed.field-0-is at c.in-Ok-Timed.ensures ∙ ap script_line c.line.ensures in
-    tells _ _ _ _ c.args.number (script_line c.args.self.now.reader.line) _ _ _ _ c.make_call.result c.in-Ok-Timed.moment c.in-Ok-Timed.call (sym is) c.make_call.ensures.failed c.make_call.ensures.serves
+pub returns-in_ok-put_answer_line-in-Ok-Timed-clause-turn : goal.returns-in_ok-put_answer_line-in-Ok-Timed-clause-turn
+returns-in_ok-put_answer_line-in-Ok-Timed-clause-turn g c = λ start source at_line.
+    let is : Timed c.in-Ok-Timed.moment c.in-Ok-Timed.call ≡ script_line c.args.self.now.lines.text = rw c.in-Ok-Timed.field-0-is at c.in-Ok-Timed.ensures ∙ ap script_line c.text.ensures in
+    subst (λ r. Goes start (midway (script_at (g.V.Service.service c.call-answer.new.self) source (g.T.Sink.sink c.put_answer_line.new.output)) c.args.self.now.lines c.put_answer_line.new.out) (Ok r)) (sym c.end_of_last.ensures)
+    (text-answered start _ _ source _ _ c.args.self.now.lines _ _ at_line c.in-Ok-Timed.moment c.in-Ok-Timed.call (sym is) c.call-answer.result c.call-answer.ensures.serves c.in_ok-put_answer_line-in-Ok-Timed.ensures.puts)
 
-pub returns-in-Ok-NotBuilt-clause-served : goal.returns-in-Ok-NotBuilt-clause-served
-returns-in-Ok-NotBuilt-clause-served g c =
-    let is : not_built ≡ script_line c.args.self.now.reader.line = rw c.in-Ok-NotBuilt.field-0-is at c.in-Ok-NotBuilt.ensures ∙ ap script_line c.line.ensures in
-    serves-none _ _ _ c.args.number (script_line c.args.self.now.reader.line) (g.T.Sink.sink c.args.output.now) c.args.self.now.answers (Err (NotBuilt c.args.number)) c.requires.legal
-    (sym (ap (form_end c.args.number) is), refl)
-    (IsPut-same _ c.args.self.now.answers c.args.self.now.answers (g.met.T.Sink.taken_fits c.args.output.now) refl)
+pub returns-in-Ok-NotBuilt-clause-turn : goal.returns-in-Ok-NotBuilt-clause-turn
+returns-in-Ok-NotBuilt-clause-turn g c = λ start source at_line.
+    let is : NotBuilt ≡ script_line c.args.self.now.lines.text = rw c.in-Ok-NotBuilt.field-0-is at c.in-Ok-NotBuilt.ensures ∙ ap script_line c.text.ensures in
+    rw c.number.ensures
+    (text-ends start _ (g.V.Service.service c.args.service.now) source _ (g.T.Sink.sink c.args.output.now) c.args.self.now.lines c.args.self.now.answers c.args.self.now.answers at_line (end.NotBuilt c.args.self.now.lines.count)
+    (sym (ap (form_end c.args.self.now.lines.count) is)) refl (λ other. absurd (cc)))
 
-pub returns-in-Ok-Bad-clause-served : goal.returns-in-Ok-Bad-clause-served
-returns-in-Ok-Bad-clause-served g c =
-    let is : Bad ≡ script_line c.args.self.now.reader.line = rw c.in-Ok-Bad.field-0-is at c.in-Ok-Bad.ensures ∙ ap script_line c.line.ensures in
-    serves-none _ _ _ c.args.number (script_line c.args.self.now.reader.line) (g.T.Sink.sink c.args.output.now) c.args.self.now.answers (Err (BadLine c.args.number)) c.requires.legal
-    (sym (ap (form_end c.args.number) is), refl)
-    (IsPut-same _ c.args.self.now.answers c.args.self.now.answers (g.met.T.Sink.taken_fits c.args.output.now) refl)
+pub returns-in-Ok-Bad-clause-turn : goal.returns-in-Ok-Bad-clause-turn
+returns-in-Ok-Bad-clause-turn g c = λ start source at_line.
+    let is : Bad ≡ script_line c.args.self.now.lines.text = rw c.in-Ok-Bad.field-0-is at c.in-Ok-Bad.ensures ∙ ap script_line c.text.ensures in
+    rw c.number-in-Ok-Bad.ensures
+    (text-ends start _ (g.V.Service.service c.args.service.now) source _ (g.T.Sink.sink c.args.output.now) c.args.self.now.lines c.args.self.now.answers c.args.self.now.answers at_line (end.BadLine c.args.self.now.lines.count)
+    (sym (ap (form_end c.args.self.now.lines.count) is)) refl (λ other. absurd (cc)))
 
-pub returns-in-Err-clause-served : goal.returns-in-Err-clause-served
-returns-in-Err-clause-served g c =
-    serves-none _ _ _ c.args.number (script_line c.args.self.now.reader.line) (g.T.Sink.sink c.args.output.now) c.args.self.now.answers (Err NoMemory) c.requires.legal
-    (inr refl)
-    (ArePut-no_memory _ _ c.args.self.now.answers c.args.self.now.answers
-    (IsPut-same (g.T.Sink.sink c.args.output.now) c.args.self.now.answers c.args.self.now.answers (g.met.T.Sink.taken_fits c.args.output.now) refl))
+pub returns-in-Err-clause-turn : goal.returns-in-Err-clause-turn
+returns-in-Err-clause-turn g c = λ start source at_line.
+    text-unread start _ (g.V.Service.service c.args.service.now) source _ (g.T.Sink.sink c.args.output.now) c.args.self.now.lines c.args.self.now.answers c.args.self.now.answers at_line

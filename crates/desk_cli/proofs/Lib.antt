@@ -1,9 +1,4 @@
+pub mod FormLemmas
 pub mod PartLemmas
 pub mod TextLemmas
-pub mod FormLemmas
-pub mod Run
-pub mod Turns
 pub mod Meeting
-pub mod OnPage
-pub mod Answering
-pub mod Throughout

@@ -2,7 +2,7 @@
 use Rattle.std.proofs.Common.{◌≡◌, ℕ, ◌+◌, ◌<◌, true, false, inl, inr, List, [], ◌∷◌, ◌++◌, length, Option, Some, None, IfSome, Result, Ok, refl, sym, ap, ◌∙◌, append_assoc, append-nil}
 use Rattle.std.specs.Option.{option_map}
 use Rattle.desk_io.specs.Lines.{has_line_feed, lines, first_line, after_first_line}
-use Rattle.desk_io.specs.NumberedLines.{is_skipped, NumberedText, ToldLines, texts_of, behind_texts, lines_told, unread, told, IsNextLine, IsStep, AreEnded, AreRead, ReadSoFar, AreCutOff}
+use Rattle.desk_io.specs.NumberedLines.{is_skipped, NumberedText, ToldLines, texts_of, behind_texts, lines_told, unread, told, IsFirstOf, IsStep, AreEnded, AreRead, ReadSoFar, AreCutOff}
 use Rattle.desk_io.specs.NumberedValue.{NumberedValue}
 use Rattle.desk_io.specs.declared.numbered_lines.LineFault.{LineFault}
 use Rattle.desk_io.proofs.LineCuts.{cut-some, cut-none}
@@ -38,7 +38,7 @@ whole-of : (bytes part rest : List ℕ) (ahead : Option (List ℕ)) → Some byt
 whole-of bytes part rest ahead whole is = let same : Some bytes ≡ Some (part ++ rest) = whole ∙ ap (option_map (λ more. part ++ more)) is in cc
 
 module _ (bytes rest : List ℕ) (texts : List NumberedText) (was now : NumberedValue) (left left_now : Option (List ℕ)) (ahead : unread was left ≡ Some rest)
-    (read : AreRead bytes texts was left) (next : IsNextLine was.count rest (unread now left_now) now) (counted : now.count ≡ was.count + 1) where
+    (read : AreRead bytes texts was left) (next : IsFirstOf rest was.count now) (counted : now.count ≡ was.count + 1) (taken : unread now left_now ≡ Some (after_first_line rest)) where
   whole-is : bytes ≡ read.part ++ rest
   whole-is = whole-of bytes read.part rest (unread was left) read.whole ahead
 
@@ -59,7 +59,7 @@ module _ (bytes rest : List ℕ) (texts : List NumberedText) (was now : Numbered
       let front = cut.front in
       record {
         part = read.part ++ (front ++ 10 ∷ []);
-        whole = rw next.rest (ap Some (whole-is ∙ ap (λ (more : List ℕ). read.part ++ more) cut.whole ∙ feed-assoc read.part front (after_first_line rest)));
+        whole = rw taken (ap Some (whole-is ∙ ap (λ (more : List ℕ). read.part ++ more) cut.whole ∙ feed-assoc read.part front (after_first_line rest)));
         ended = inr (read.part ++ front, sym (append_assoc read.part front (10 ∷ [])));
         tells = λ more.
             ap (λ (all : List ℕ). lines_told 0 (lines all)) (sym (feed-assoc read.part front more)) ∙ read.tells (front ++ 10 ∷ more)
@@ -80,17 +80,17 @@ ahead-some bytes part None whole = absurd (cc)
 ahead-some bytes part (Some rest) whole = (rest, refl)
 
 module _ (texts : List NumberedText) (was now : NumberedValue) (left left_now : Option (List ℕ)) (step : IsStep was now left left_now) where
-  next-line : (bytes : List ℕ) (read : AreRead bytes texts was left) → (rest : List ℕ) × (unread was left ≡ Some rest) × IsNextLine was.count rest (unread now left_now) now
+  next-line : (bytes : List ℕ) (read : AreRead bytes texts was left) → (rest : List ℕ) × (unread was left ≡ Some rest) × IsFirstOf rest was.count now × (unread now left_now ≡ Some (after_first_line rest))
   next-line bytes read =
       let some = ahead-some bytes read.part (unread was left) read.whole in
-      (some.0, some.1, rw some.1 at step.line)
+      (some.0, some.1, rw some.1 at step.first, step.rest ∙ ap (option_map after_first_line) some.1)
 
   -- the lines read go on through a line feed
   pub read-line : (whole : Option (List ℕ)) → ReadSoFar whole texts was left → now.is_ended ≡ true → ReadSoFar whole (texts ++ texts_of now.count now.text) now left_now
   read-line None read ended = tt
   read-line (Some bytes) read ended =
       let some = next-line bytes read in
-      through-feed bytes some.0 texts was now left left_now some.1 read some.2 step.counted ended
+      through-feed bytes some.0 texts was now left left_now some.1 read some.2 step.counted some.3 ended
 
   -- a line that no line feed ended is the last that is told
   pub read-last : (whole : Option (List ℕ)) → ReadSoFar whole texts was left → now.is_ended ≡ false →
@@ -98,7 +98,7 @@ module _ (texts : List NumberedText) (was now : NumberedValue) (left left_now : 
   read-last None read last = tt
   read-last (Some bytes) read last =
       let some = next-line bytes read in
-      told-last bytes some.0 texts was now left left_now some.1 read some.2 step.counted last
+      told-last bytes some.0 texts was now left left_now some.1 read some.2 step.counted some.3 last
 
   -- however the line ended, its text is told behind those that were read
   pub read-through : (whole : Option (List ℕ)) → ReadSoFar whole texts was left →
@@ -106,7 +106,7 @@ module _ (texts : List NumberedText) (was now : NumberedValue) (left left_now : 
   read-through None read = tt
   read-through (Some bytes) read =
       let some = next-line bytes read in
-      (lines_told now.count (lines (after_first_line some.0)), told-through bytes some.0 texts was now left left_now some.1 read some.2 step.counted)
+      (lines_told now.count (lines (after_first_line some.0)), told-through bytes some.0 texts was now left left_now some.1 read some.2 step.counted some.3)
 
 joined : (part held : List ℕ) (left : Option (List ℕ)) → option_map (λ more. part ++ more) (option_map (λ more. held ++ more) left) ≡ option_map (λ more. part ++ (held ++ more)) left
 joined part held None = refl

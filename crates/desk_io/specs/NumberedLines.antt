@@ -26,7 +26,7 @@ pub record NumberedText : Type 0 where
   pub number : ℕ
   pub text : List ℕ
 
--- the texts that lines tell, and what stands behind these: the end, with how many lines there are, or a line past a limit
+-- the texts that lines tell, and what stands behind them: the end, with the number of lines, or a line past a limit
 pub record ToldLines : Type 0 where
   pub texts : List NumberedText
   pub end : Result ℕ LineFault
@@ -74,21 +74,26 @@ TellsNext before after End now = IfSome before (λ told. told ≡ record { texts
 TellsNext before after (Fault fault) now = IfSome before (λ told. told ≡ record { texts = []; end = Err fault })
 TellsNext before after ReadFault now = after ≡ before
 
--- the first line of the bytes, behind so many others, goes past no limit and was taken with its line feed
-pub record IsNextLine (before : ℕ) (bytes : List ℕ) (after : Option (List ℕ)) (now : NumberedValue) : Type 0 where
+-- the last line is the first of the bytes, and goes past no limit behind so many others
+pub record IsFirstOf (bytes : List ℕ) (before : ℕ) (now : NumberedValue) : Type 0 where
   pub some : 0 < length bytes
   pub fits : past_limit before (first_line bytes) ≡ None
   pub text : now.text ≡ (first_line bytes).text
   pub ended : now.is_ended ≡ has_line_feed bytes
-  pub rest : after ≡ Some (after_first_line bytes)
 
--- a line was taken from the bytes; at the end none are left; a failed read takes nothing, and leaves no whole line held
-abbrev pub ReadsNext : ℕ → Option (List ℕ) → Option (List ℕ) → NextLine → NumberedValue → Type 0
-ReadsNext before ahead ahead_now Text now = IfSome ahead (λ bytes. IsNextLine before bytes ahead_now now)
-ReadsNext before ahead ahead_now Skipped now = IfSome ahead (λ bytes. IsNextLine before bytes ahead_now now)
-ReadsNext before ahead ahead_now End now = IfSome ahead_now (λ bytes. bytes ≡ [])
-ReadsNext before ahead ahead_now (Fault fault) now = Unit {0}
-ReadsNext before ahead ahead_now ReadFault now = (ahead_now ≡ ahead) × (has_line_feed now.held ≡ false)
+-- one more line was read and counted, and is taken from the bytes that are ahead
+pub record IsStep (was now : NumberedValue) (left left_now : Option (List ℕ)) : Type 0 where
+  pub counted : now.count ≡ was.count + 1
+  pub first : IfSome (unread was left) (λ bytes. IsFirstOf bytes was.count now)
+  pub rest : unread now left_now ≡ option_map after_first_line (unread was left)
+
+-- a line was read; at the end no byte is left; a failed read takes nothing, and no whole line is held
+abbrev pub ReadsNext : NumberedValue → NumberedValue → Option (List ℕ) → Option (List ℕ) → NextLine → Type 0
+ReadsNext was now left left_now Text = IsStep was now left left_now
+ReadsNext was now left left_now Skipped = IsStep was now left left_now
+ReadsNext was now left left_now End = IfSome left_now (λ bytes. bytes ≡ [])
+ReadsNext was now left left_now (Fault fault) = Unit {0}
+ReadsNext was now left left_now ReadFault = (unread now left_now ≡ unread was left) × (has_line_feed now.held ≡ false)
 
 -- a fault of reading is answered only where the source's count rose
 abbrev pub NextCause : ℕ → ℕ → NextLine → Type 0
@@ -122,17 +127,16 @@ pub record AreCutOff (bytes : List ℕ) (left : Option (List ℕ)) (texts : List
 
 -- of the bytes a part was read, which is empty or ends with a line feed, and goes past no limit: it tells these texts,
 -- whatever stands behind it
-pub record AreRead (bytes : List ℕ) (texts : List NumberedText) (now : NumberedValue) (left : Option (List ℕ)) : Type 0 where
+pub record AreRead
+    (bytes : List ℕ) (texts : List NumberedText) (now : NumberedValue) (left : Option (List ℕ))
+    : Type 0 where
   pub part : List ℕ
   pub whole : Some bytes ≡ option_map (λ more. part ++ more) (unread now left)
   pub ended : AreEnded part
-  pub tells : (more : List ℕ) → lines_told 0 (lines (part ++ more)) ≡ behind_texts texts (lines_told now.count (lines more))
+  pub tells :
+    (more : List ℕ)
+    → lines_told 0 (lines (part ++ more)) ≡ behind_texts texts (lines_told now.count (lines more))
 
 -- the same, where the bytes are told
 abbrev pub ReadSoFar : Option (List ℕ) → List NumberedText → NumberedValue → Option (List ℕ) → Type 0
 ReadSoFar whole texts now left = IfSome whole (λ bytes. AreRead bytes texts now left)
-
--- one more line was read, and is counted
-pub record IsStep (was now : NumberedValue) (left left_now : Option (List ℕ)) : Type 0 where
-  pub line : IfSome (unread was left) (λ bytes. IsNextLine was.count bytes (unread now left_now) now)
-  pub counted : now.count ≡ was.count + 1

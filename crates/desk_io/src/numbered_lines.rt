@@ -2,7 +2,7 @@
 
 ghost use Rattle.std.specs.Prelude.{◌≡◌, ◌+◌, ◌<◌, ◌≤◌, [], true, false, not, length, nat_le, IfOk, if◌then◌else◌};
 ghost use Rattle.desk_io.specs.Lines.{has_line_feed};
-ghost use Rattle.desk_io.specs.NumberedLines.{is_skipped as skips, lines_taken, told, unread, NextCause, PassesOver, ReadsNext, TellsNext};
+ghost use Rattle.desk_io.specs.NumberedLines.{is_skipped as skips, lines_taken, told, NextCause, PassesOver, ReadsNext, TellsNext};
 
 use crate::limits::{INPUT_LINES_MAX, LINE_BYTES_MAX};
 use crate::{LineGot, LineReader, NoMemory, Source};
@@ -84,9 +84,7 @@ impl NumberedLines {
                 result self.new
         }
         ensures line {
-            ReadsNext self.old.count
-                (unread self.old (S.source source.old).left) (unread self.new (S.source source.new).left)
-                result self.new
+            ReadsNext self.old self.new (S.source source.old).left (S.source source.new).left result
         }
         ensures passed { PassesOver result self.new.text }
         ensures short { length self.new.text ≤ LINE_BYTES_MAX }

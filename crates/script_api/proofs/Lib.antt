@@ -4,9 +4,5 @@ pub mod FieldLemmas
 pub mod BarLemmas
 pub mod FormLemmas
 pub mod LineLemmas
-pub mod Putting
 pub mod Spelling
 pub mod Turning
-pub mod Making
-pub mod Looping
-pub mod Finishing

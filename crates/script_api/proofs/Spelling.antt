@@ -1,42 +1,52 @@
--- What lines behind so many others tell, by the first of them.
-use Rattle.std.proofs.Common.{◌≡◌, ℕ, ◌+◌, ◌<◌, ◌≤◌, List, [], length, Some, None, refl, ◌∙◌}
-use Rattle.std.proofs.lemmas.Bool.{lt-ltb, le-ltb, le-leb, lt-leb, cond-true, cond-false}
+-- What a script spells, by the texts that its bytes tell.
+use Rattle.std.proofs.Common.{◌≡◌, ℕ, List, [], ◌∷◌, ◌++◌, Option, Some, None, Result, refl, sym, ap, ◌∙◌, append_assoc, append-nil}
 use Rattle.desk_types.specs.declared.call.Call.{Call}
-use Rattle.desk_io.specs.Lines.{Line, lines, first_line, after_first_line}
-use Rattle.desk_io.proofs.LineLaws.{lines-nil, lines-cons}
-use Rattle.script_api.specs.declared.limits.TheConstants.{LINE_BYTES_MAX, INPUT_LINES_MAX}
+use Rattle.desk_io.specs.Lines.{lines}
+use Rattle.desk_io.specs.NumberedLines.{NumberedText, ToldLines, behind_texts, lines_told}
+use Rattle.desk_io.specs.declared.numbered_lines.LineFault.{LineFault}
 use Rattle.script_api.specs.declared.ending.ScriptEnd.{ScriptEnd}
-use Rattle.script_api.specs.declared.ending.ScriptEnd.TheVariants.{Ended, LongLine, TooManyLines}
 use Rattle.script_api.specs.Script.{script_line}
-use Rattle.script_api.specs.ScriptValue.{calls_of, form_end, end_at, unless_ended, behind_calls, spelled_behind}
+use Rattle.script_api.specs.ScriptRun.{AreFirstOf}
+use Rattle.script_api.specs.ScriptTurn.{SpellOn}
+use Rattle.script_api.specs.ScriptValue.{ScriptValue, calls_of, form_end, end_of, behind_calls, spelled_by, script_of}
 
-pub end_at-many : (before : ℕ) (line : Line) → INPUT_LINES_MAX ≤ before → end_at before line ≡ Some TooManyLines
-unfolding end_at
-end_at-many before line many = cond-true _ _ _ (le-leb INPUT_LINES_MAX before many)
+behind-assoc : (calls more : List (ℕ × Call)) (script : ScriptValue) → behind_calls calls (behind_calls more script) ≡ behind_calls (calls ++ more) script
+behind-assoc calls more script = ap (λ (all : List (ℕ × Call)). let s : ScriptValue = record { calls = all; end = script.end } in s) (sym (append_assoc calls more script.calls))
 
-pub end_at-long : (before : ℕ) (line : Line) → before < INPUT_LINES_MAX → LINE_BYTES_MAX < line.size → end_at before line ≡ Some (LongLine (before + 1))
-unfolding end_at
-end_at-long before line few long = cond-false _ _ _ (lt-leb INPUT_LINES_MAX before few) ∙ cond-true _ _ _ (lt-ltb LINE_BYTES_MAX line.size long)
+behind-none : (calls : List (ℕ × Call)) (ending : ScriptEnd) → behind_calls calls (record { calls = []; end = ending }) ≡ record { calls = calls; end = ending }
+behind-none calls ending = ap (λ (all : List (ℕ × Call)). let s : ScriptValue = record { calls = all; end = ending } in s) (append-nil calls)
 
-pub end_at-form : (before : ℕ) (line : Line) → before < INPUT_LINES_MAX → line.size ≤ LINE_BYTES_MAX → end_at before line ≡ form_end (before + 1) (script_line line.text)
-unfolding end_at
-end_at-form before line few short = cond-false _ _ _ (lt-leb INPUT_LINES_MAX before few) ∙ cond-false _ _ _ (le-ltb LINE_BYTES_MAX line.size short)
+pub spell-none : SpellOn [] []
+spell-none more ending = refl
 
--- where no byte is ahead
-pub spelled-end : (before : ℕ) (bytes : List ℕ) → bytes ≡ [] → spelled_behind before (lines bytes) ≡ record { calls = []; end = Ended }
-unfolding spelled_behind
-spelled-end before bytes none = rw (none, lines-nil) refl
+-- one more text that does not end the script
+pub spell-text : (texts : List NumberedText) (calls : List (ℕ × Call)) (line : NumberedText) → SpellOn texts calls → form_end line.number (script_line line.text) ≡ None →
+    SpellOn (texts ++ line ∷ []) (calls ++ calls_of (script_line line.text))
+unfolding spelled_by
+spell-text texts calls line spell goes more ending =
+    ap (λ (all : List NumberedText). spelled_by all ending) (append_assoc texts (line ∷ []) more) ∙ spell (line ∷ more) ending
+    ∙ ap (behind_calls calls) (rw goes refl) ∙ behind-assoc calls (calls_of (script_line line.text)) (spelled_by more ending)
 
--- where a byte is ahead, the first line ends the script, or it goes on behind it
-spelled-first : (before : ℕ) (bytes : List ℕ) → 0 < length bytes →
-    spelled_behind before (lines bytes) ≡ unless_ended (end_at before (first_line bytes)) (behind_calls (calls_of (script_line (first_line bytes).text)) (spelled_behind (before + 1) (lines (after_first_line bytes))))
-unfolding spelled_behind
-spelled-first before bytes some = rw (lines-cons bytes some) refl
+module _ (bytes : List ℕ) (texts : List NumberedText) (calls : List (ℕ × Call)) (spell : SpellOn texts calls) where
+  -- nothing else is told
+  pub script-all : (end : Result ℕ LineFault) → lines_told 0 (lines bytes) ≡ record { texts = texts; end = end } → script_of bytes ≡ record { calls = calls; end = end_of end }
+  unfolding script_of spelled_by
+  script-all end told =
+      ap (λ (t : ToldLines). spelled_by t.texts (end_of t.end)) told ∙ ap (λ (all : List NumberedText). spelled_by all (end_of end)) (sym (append-nil texts))
+      ∙ spell [] (end_of end) ∙ behind-none calls (end_of end)
 
-pub spelled-ended : (before : ℕ) (bytes : List ℕ) (ending : ScriptEnd) → 0 < length bytes → end_at before (first_line bytes) ≡ Some ending →
-    spelled_behind before (lines bytes) ≡ record { calls = []; end = ending }
-spelled-ended before bytes ending some ends = spelled-first before bytes some ∙ rw ends refl
+  script-behind : (rest : ToldLines) → lines_told 0 (lines bytes) ≡ behind_texts texts rest → script_of bytes ≡ behind_calls calls (spelled_by rest.texts (end_of rest.end))
+  unfolding script_of
+  script-behind rest told = ap (λ (t : ToldLines). spelled_by t.texts (end_of t.end)) told ∙ spell rest.texts (end_of rest.end)
 
-pub spelled-goes : (before : ℕ) (bytes : List ℕ) (calls : List (ℕ × Call)) → 0 < length bytes → end_at before (first_line bytes) ≡ None → calls ≡ calls_of (script_line (first_line bytes).text) →
-    spelled_behind before (lines bytes) ≡ behind_calls calls (spelled_behind (before + 1) (lines (after_first_line bytes)))
-spelled-goes before bytes calls some goes made = spelled-first before bytes some ∙ rw (goes, made) refl
+  -- more is told
+  pub script-first : (rest : ToldLines) → lines_told 0 (lines bytes) ≡ behind_texts texts rest → AreFirstOf calls (script_of bytes).calls
+  script-first rest told = ((spelled_by rest.texts (end_of rest.end)).calls, ap (λ (s : ScriptValue). s.calls) (script-behind rest told))
+
+  -- the next text that is told ends the script
+  pub script-ended : (rest : ToldLines) (line : NumberedText) (ending : ScriptEnd) → lines_told 0 (lines bytes) ≡ behind_texts (texts ++ line ∷ []) rest →
+      form_end line.number (script_line line.text) ≡ Some ending → script_of bytes ≡ record { calls = calls; end = ending }
+  unfolding spelled_by
+  script-ended rest line ending told ends =
+      let behind : lines_told 0 (lines bytes) ≡ behind_texts texts (behind_texts (line ∷ []) rest) = told ∙ ap (λ (all : List NumberedText). let t : ToldLines = record { texts = all; end = rest.end } in t) (append_assoc texts (line ∷ []) rest.texts) in
+      script-behind (behind_texts (line ∷ []) rest) behind ∙ ap (behind_calls calls) (rw ends refl) ∙ behind-none calls ending

@@ -1,11 +1,6 @@
--- The fields of a text, the texts that stand behind them, and lines that are passed over.
+-- The fields of a text, and the texts that stand behind them.
 use Rattle.std.specs.Prelude.{ℕ, Bool, true, ◌==◌, ◌&&◌, nat_lt, if◌then◌else◌, List, [], ◌∷◌, length, filter}
 use Rattle.std.specs.List.{slice_split, after_first}
-
--- whether a line is passed over: it is empty or begins with `#`
-abbrev pub is_skipped : List ℕ → Bool
-is_skipped [] = true
-is_skipped (byte ∷ more) = byte == 35
 
 -- the fields of a text, which one or more spaces part
 unfoldable pub fields : List ℕ → List (List ℕ)

@@ -5,9 +5,9 @@ use Rattle.desk_types.specs.declared.call.Call.{Call}
 use Rattle.script_api.specs.declared.command.CallWord.{CallWord}
 use Rattle.script_api.specs.declared.command.OtherWord.{OtherWord}
 use Rattle.script_api.specs.declared.line.ScriptLine.{ScriptLine}
-use Rattle.script_api.specs.declared.line.ScriptLine.TheVariants.{Skipped, Timed, NotBuilt, Bad}
+use Rattle.script_api.specs.declared.line.ScriptLine.TheVariants.{Timed, NotBuilt, Bad}
 use Rattle.script_api.specs.Number.{number}
-use Rattle.script_api.specs.LineFields.{fields, is_skipped, unspaced_end, behind_first}
+use Rattle.script_api.specs.LineFields.{fields, unspaced_end, behind_first}
 use Rattle.script_api.specs.Command.{call_named, other_named}
 use Rattle.script_api.specs.CallForm.{call_spelled}
 use Rattle.script_api.specs.OtherForm.{is_in_form}
@@ -41,10 +41,9 @@ spelled_by_fields _ rest = Bad
 unfoldable pub spelled_by_text : List ℕ → ScriptLine
 spelled_by_text text = spelled_by_fields (fields text) (behind_first (behind_first text))
 
--- what a line spells; spaces at its end are dropped, and a space in front makes it bad
+-- what a line spells that is not passed over; spaces at its end are dropped, and a space in front makes it bad
 unfoldable pub script_line : List ℕ → ScriptLine
 script_line line =
-    if is_skipped line then Skipped
-    else (if not (is_utf8 line) then Bad
+    if not (is_utf8 line) then Bad
     else (if slice_index line 0 == 32 then Bad
-    else spelled_by_text (unspaced_end line)))
+    else spelled_by_text (unspaced_end line))

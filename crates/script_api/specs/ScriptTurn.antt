@@ -5,9 +5,9 @@ use Rattle.desk_types.specs.declared.entry.Fault.{Fault}
 use Rattle.desk_types.specs.declared.reply.Reply.{Reply}
 use Rattle.desk_types.specs.Serving.{AreServed}
 use Rattle.desk_io.specs.declared.out_buf.WriteFault.{WriteFault}
-use Rattle.desk_io.specs.NumberedLines.{NumberedText, IsStep, ReadSoFar}
+use Rattle.desk_io.specs.NumberedLines.{is_skipped, NumberedText, IsStep, ReadSoFar}
 use Rattle.desk_io.specs.NumberedValue.{NumberedValue}
-use Rattle.desk_io.specs.Putting.{SendsFront}
+use Rattle.desk_io.specs.Putting.{Puts}
 use Rattle.script_api.specs.declared.ending.ScriptEnd.{ScriptEnd}
 use Rattle.script_api.specs.declared.ending.ScriptEnd.TheVariants.{Ended, WriteFault as write_fault}
 use Rattle.script_api.specs.ReplyLine.{answer_line}
@@ -27,15 +27,20 @@ midway at lines waiting = record { at = at; lines = lines; waiting = waiting }
 pub record AreCallsServed (start : ScriptState) (now : Midway) (calls : List (ℕ × Call)) : Type 0 where
   pub results : List (Result Reply Fault)
   pub served : AreServed start.service calls results now.at.service
-  pub puts : SendsFront start.sink now.at.sink (flat_map answer_line results) now.waiting
+  pub puts : Puts {T = Unit {0}} {E = WriteFault} start.sink now.at.sink [] now.waiting (flat_map answer_line results) (Ok tt)
   pub read_faults : start.source.faults ≤ now.at.source.faults
-  pub write_faults : start.sink.faults ≤ now.at.sink.faults
+
+-- texts spell these calls, and none of them ends the script
+abbrev pub SpellOn : List NumberedText → List (ℕ × Call) → Type 0
+SpellOn texts calls =
+    (more : List NumberedText) (ending : ScriptEnd)
+    → spelled_by (texts ++ more) ending ≡ behind_calls calls (spelled_by more ending)
 
 -- these texts were served: none of them ends the script, and their calls were made
 pub record AreTextsServed (start : ScriptState) (now : Midway) (texts : List NumberedText) : Type 0 where
   pub calls : List (ℕ × Call)
   pub made : AreCallsServed start now calls
-  pub spell : (more : List NumberedText) (ending : ScriptEnd) → spelled_by (texts ++ more) ending ≡ behind_calls calls (spelled_by more ending)
+  pub spell : SpellOn texts calls
 
 -- all texts that were read are served
 pub record IsSoFar (start : ScriptState) (now : Midway) : Type 0 where
@@ -43,14 +48,14 @@ pub record IsSoFar (start : ScriptState) (now : Midway) : Type 0 where
   pub read : ReadSoFar start.source.left texts now.lines now.at.source.left
   pub served : AreTextsServed start now texts
 
--- a line was read, and the texts before it are served
+-- a line was read that is not passed over, and the texts before it are served
 pub record IsAtLine (start : ScriptState) (now : Midway) : Type 0 where
   pub texts : List NumberedText
   pub was : NumberedValue
   pub left : Option (List ℕ)
   pub read : ReadSoFar start.source.left texts was left
   pub step : IsStep was now.lines left now.at.source.left
-  pub none_left : now.lines.is_ended ≡ false → IfSome now.at.source.left (λ bytes. bytes ≡ [])
+  pub spoken : is_skipped now.lines.text ≡ false
   pub served : AreTextsServed start now texts
 
 -- the script ended so, by another cause than a failed write, and bytes may wait

@@ -1,13 +1,9 @@
 //! The lines of answers on their way out.
 
-ghost use Rattle.std.specs.Prelude.{◌≡◌, ℕ, ◌≤◌, ◌⊎◌, List, [], ◌++◌, IfOk, IfErr, OnOk, OnErr};
-ghost use Rattle.desk_io.specs.Faults.{Rose};
-ghost use Rattle.desk_io.specs.Writing.{Appends, IsProperPrefix};
+ghost use Rattle.std.specs.Prelude.{◌≡◌, [], IfOk};
+ghost use Rattle.desk_io.specs.Putting.{Flushes, Puts};
 ghost use Rattle.script_api.specs.ReplyLine.{answer_line};
-ghost use Rattle.script_api.specs.ScriptRun.{EndCause};
-ghost use Rattle.script_api.specs.ScriptTurn.{ArePut, Finishes};
 
-use crate::ending::ScriptEnd;
 use crate::reply_line::write_answer_line;
 use desk_io::{OutBuf, Sink, WriteFault};
 use desk_types::{Fault, Reply};
@@ -42,49 +38,24 @@ impl AnswerLines {
     }
 
     /// Puts the line of an answer behind those that wait, and writes what has no room.
-    /// `NoMemory` puts nothing.
     pub fn put<T: Sink>(
         &mut self,
         output: &mut T,
         answer: &Result<Reply, Fault>,
-    ) -> Result<(), ScriptEnd>
-        ensures puts { ArePut (T.sink output.old) (T.sink output.new) (self.old ++ answer_line answer.now) self.new result }
-        ensures failed { IfErr result (λ end. (end ≡ ScriptEnd.WriteFault) ⊎ (end ≡ ScriptEnd.NoMemory)) }
-        ensures cause { IfErr result (EndCause 0 0 (T.sink output.old).faults (T.sink output.new).faults) }
-        ensures faults { (T.sink output.old).faults ≤ (T.sink output.new).faults }
+    ) -> Result<(), WriteFault>
+        ensures puts { Puts (T.sink output.old) (T.sink output.new) self.old self.new (answer_line answer.now) result }
+        ensures source_side { T.source_side output.new ≡ T.source_side output.old }
     {
         self.text.clear();
-        let Ok(()) = write_answer_line(&mut self.text, answer) else {
-            return Err(ScriptEnd::NoMemory);
-        };
-        match self.out.put(output, self.text.as_bytes()) {
-            Ok(()) => Ok(()),
-            Err(_) => Err(ScriptEnd::WriteFault),
-        }
+        let _ = write_answer_line(&mut self.text, answer);
+        self.out.put(output, self.text.as_bytes())
     }
 
-    /// Writes all lines that wait. After a fault a beginning of them is written, and not all.
+    /// Writes all lines that wait.
     pub fn flush<T: Sink>(&mut self, output: &mut T) -> Result<(), WriteFault>
-        ensures flushed { OnOk result (Appends (T.sink output.old) (T.sink output.new) self.old × (self.new ≡ [])) }
-        ensures fault { OnErr result ((sent : List ℕ) × Appends (T.sink output.old) (T.sink output.new) sent × IsProperPrefix sent self.old) }
-        ensures cause { OnErr result (Rose (T.sink output.old).faults (T.sink output.new).faults) }
-        ensures faults { (T.sink output.old).faults ≤ (T.sink output.new).faults }
+        ensures flushes { Flushes (T.sink output.old) (T.sink output.new) self.old self.new result }
+        ensures source_side { T.source_side output.new ≡ T.source_side output.old }
     {
         self.out.flush(output)
-    }
-
-    /// Writes all lines that wait, unless a write failed, and answers the end, which is `WriteFault` where a write failed.
-    pub fn finish<T: Sink>(&mut self, output: &mut T, end: ScriptEnd) -> ScriptEnd
-        ensures finishes { Finishes (T.sink output.old) (T.sink output.new) self.old end result }
-        ensures cause { (result ≡ end) ⊎ ((result ≡ ScriptEnd.WriteFault) × Rose (T.sink output.old).faults (T.sink output.new).faults) }
-        ensures faults { (T.sink output.old).faults ≤ (T.sink output.new).faults }
-    {
-        if let ScriptEnd::WriteFault = end {
-            return end;
-        }
-        match self.flush(output) {
-            Ok(()) => end,
-            Err(_) => ScriptEnd::WriteFault,
-        }
     }
 }

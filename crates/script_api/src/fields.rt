@@ -1,19 +1,9 @@
-//! The fields of a text, which spaces part, and the texts behind them; lines that are passed over.
+//! The fields of a text, which spaces part, and the texts behind them.
 
 ghost use Rattle.std.specs.Prelude.{◌≡◌, ◌≢◌, ℕ, ◌<◌, ◌≤◌, ◌∷◌, [], length, slice_index, IfSome, MatchOption};
-ghost use Rattle.script_api.specs.LineFields.{fields, is_skipped as skips, unspaced, unspaced_end, behind_first, behind_third, behind_fifth};
+ghost use Rattle.script_api.specs.LineFields.{fields, unspaced, unspaced_end, behind_first, behind_third, behind_fifth};
 
 use memchr::memchr;
-
-/// Whether a line is passed over: it is empty or begins with `#`.
-pub fn is_skipped(line: &[u8]) -> bool
-    ensures { result ≡ skips line.now }
-{
-    match line {
-        [] => true,
-        [byte, ..] => *byte == b'#',
-    }
-}
 
 /// The text without the spaces in front.
 pub fn without_spaces(text: &str) -> &str

@@ -11,7 +11,6 @@ mod call;
 mod command;
 mod ending;
 pub mod fields;
-pub mod limits;
 mod line;
 pub mod number;
 mod other;

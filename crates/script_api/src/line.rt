@@ -5,18 +5,16 @@ ghost use Rattle.script_api.specs.Script.{script_line, spelled_by_text, spelled_
 
 use crate::call::read_call;
 use crate::command::{OtherWord, call_word, other_word};
-use crate::fields::{first_field, is_skipped, without_end_spaces};
+use crate::fields::{first_field, without_end_spaces};
 use crate::number::number;
 use crate::other::is_in_form;
 use desk_types::Call;
 use query_words::NoMemory;
 use std::alloc::Global;
 
-/// What a line of a script spells.
+/// What a line of a script spells that is not passed over.
 #[derive(Debug, Drop)]
 pub enum ScriptLine {
-    /// Nothing: the line is empty or begins with `#`.
-    Skipped,
     /// A call at a moment, in seconds.
     Timed {
         /// The moment.
@@ -36,9 +34,6 @@ pub enum ScriptLine {
 pub fn read_line(alloc: Global, line: &[u8]) -> Result<ScriptLine, NoMemory>
     ensures { IfOk result (λ spelled. spelled ≡ script_line line.now) }
 {
-    if is_skipped(line) {
-        return Ok(ScriptLine::Skipped);
-    }
     let Ok(text) = str::from_utf8(line) else {
         return Ok(ScriptLine::Bad);
     };

@@ -84,8 +84,10 @@ impl LineServing {
                     self.new.lines self.new.answers)
                 result
         }
-        ensures counts { result ≡ Ok None → self.old.lines.count < self.new.lines.count }
-        ensures within { self.new.lines.count ≤ INPUT_LINES_MAX }
+        ensures counts {
+            result ≡ Ok None →
+            (self.old.lines.count < self.new.lines.count) × (self.new.lines.count ≤ INPUT_LINES_MAX)
+        }
         ensures sink_side { S.sink_side input.new ≡ S.sink_side input.old }
         ensures source_side { T.source_side output.new ≡ T.source_side output.old }
     {
@@ -132,7 +134,6 @@ impl LineServing {
         ensures source_side { T.source_side output.new ≡ T.source_side output.old }
     {
         match read_line(self.alloc, self.lines.text()) {
-            Ok(ScriptLine::Skipped) => Ok(self.end_of_last()),
             Ok(ScriptLine::Timed { moment, call }) => {
                 let answer = service.call(moment, call);
                 self.answers.put(output, &answer)?;

@@ -5,6 +5,6 @@ use Rattle.script_api.proofs.line.read_line.Goals as goal
 pub returns : goal.returns
 returns c =
     spelled-line c.args.line.now c.in-Ok.text.now c.read_text.result
-    (sym c.is_skipped.ensures ∙ c.if-is_skipped.false) c.in-Ok.ensures.cases.0 c.in-Ok.ensures.cases.1
+    c.in-Ok.ensures.cases.0 c.in-Ok.ensures.cases.1
     (sym (c.starts_with.ensures.byte (lit< tt) (lit< tt) (λ w o h. h)) ∙ c.if-starts_with.false)
     (rw c.without_end_spaces.ensures at c.read_text.ensures)

@@ -1,6 +1,7 @@
 use Rattle.std.proofs.Common.{arith}
 use Rattle.desk_io.specs.NextLine.{ahead}
 use Rattle.desk_io.specs.NumberedValue.{NumberedValue}
+use Rattle.desk_io.proofs.Ahead.{none_left}
 use Rattle.desk_io.proofs.NextTold.{told-end, told-long, told-taken}
 use Rattle.desk_io.proofs.numbered_lines.NumberedLines.next.Goals as goal
 
@@ -21,3 +22,7 @@ pub returns-in-TooLong-clause-told : goal.returns-in-TooLong-clause-told
 returns-in-TooLong-clause-told g c =
     rw (← c.self.view_is)
     (told-long c.self.inside.count (ahead c.self.inside.reader (g.S.Source.source c.args.source.now).left) c.fault_of_long.result (rw c.self.invariant.0 at c.in-TooLong.ensures.lines.1) c.fault_of_long.ensures)
+
+pub returns-in-End-clause-line : goal.returns-in-End-clause-line
+returns-in-End-clause-line g c =
+    none_left c.next.new.self (g.S.Source.source c.next.new.source).left (rw c.in-End.ensures.lines.0 c.in-End.ensures.lines.1)

@@ -46,20 +46,13 @@ impl Solo {
 }
 
 impl Service for Solo {
-    ghost use Rattle.std.specs.Prelude.{true};
-    ghost use Rattle.desk_core.specs.DeskValue.{opening};
+    ghost use Rattle.desk_core.specs.DeskValue.{service_of};
 
     type Home = Settings;
 
     ghost home = { λ s. s.desk.settings };
 
-    ghost opening = { λ s. opening s.desk };
-
-    ghost seen = { λ s. s.desk.log };
-
-    ghost me = { λ s. s.caller };
-
-    ghost sure = { λ s. true };
+    ghost service = { λ s. service_of s.caller s.desk };
 
     fn history_is_legal(&self) {
         let _log = self.desk.log();

@@ -4,7 +4,7 @@ use crate::{Ad, better};
 use std::process::Abort;
 
 /// What a row shows, a bid, a quality, and whether there is an ad with these.
-const BOUNDS: [(&str, u64, u64, bool); 6] = [
+static BOUNDS: [(&str, u64, u64, bool); 6] = [
     ("the least", 1, 1, true),
     ("the greatest", 1_000_000, 100, true),
     ("no bid", 0, 10, false),
@@ -15,8 +15,11 @@ const BOUNDS: [(&str, u64, u64, bool); 6] = [
 
 #[test]
 fn bid_and_quality_are_in_range(rt: HostRuntime) {
-    for (case, bid, quality, made) in BOUNDS {
-        assert_eq!(rt; Ad::new(1, 1, 1, bid, quality).is_some(), made, "{case}");
+    for (case, bid, quality, made) in &BOUNDS {
+        assert!(rt;
+            Ad::new(1, 1, 1, *bid, *quality).is_some() == *made,
+            "{case}"
+        );
     }
 }
 
@@ -24,7 +27,7 @@ fn bid_and_quality_are_in_range(rt: HostRuntime) {
 type Numbers = (u64, u64, u64, u64, u64);
 
 /// What the first of two ads has by which it is the better one.
-const RANKED: [(&str, Numbers, Numbers); 5] = [
+static RANKED: [(&str, Numbers, Numbers); 5] = [
     ("score", (1, 1, 1, 100, 10), (2, 1, 1, 80, 10)),
     ("quality", (2, 1, 1, 50, 12), (1, 1, 1, 60, 10)),
     ("account", (1, 9, 9, 60, 10), (2, 1, 1, 60, 10)),
@@ -34,9 +37,9 @@ const RANKED: [(&str, Numbers, Numbers); 5] = [
 
 #[test]
 fn ads_rank_by_score_then_quality_then_triple(rt: HostRuntime) {
-    for (case, first, second) in RANKED {
-        assert!(rt; ranks(&rt, first, second), "{case}");
-        assert!(rt; !ranks(&rt, second, first), "{case}, the other way round");
+    for (case, first, second) in &RANKED {
+        assert!(rt; ranks(&rt, *first, *second), "{case}");
+        assert!(rt; !ranks(&rt, *second, *first), "{case}, the other way round");
     }
 }
 

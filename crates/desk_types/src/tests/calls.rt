@@ -23,7 +23,7 @@ fn a_line_weighs_what_its_four_texts_do(rt: HostRuntime) -> Result<(), Fail> {
 }
 
 /// A refusal of each kind of detail, its number and its name.
-const REFUSALS: [(Refusal, u64, &str, Detail); 4] = [
+static REFUSALS: [(Refusal, u64, &str, Detail); 4] = [
     (Refusal::BadKey, 1, "BadKey", Detail::Nothing),
     (
         Refusal::BadField(Field::Bid),
@@ -47,8 +47,8 @@ const REFUSALS: [(Refusal, u64, &str, Detail); 4] = [
 
 #[test]
 fn refusals_have_a_number_a_name_and_a_detail(rt: HostRuntime) {
-    for (refusal, number, name, detail) in REFUSALS {
-        check_refusal(&rt, refusal, number, name, detail);
+    for (refusal, number, name, detail) in &REFUSALS {
+        check_refusal(&rt, *refusal, *number, name, *detail);
     }
 }
 

@@ -5,7 +5,7 @@ use std::process::Abort;
 use std::test::Fail;
 
 /// A text that is a link or is none.
-const LINKS: [(&str, bool); 9] = [
+static LINKS: [(&str, bool); 9] = [
     ("http://s.example/", true),
     ("https://s.example/", true),
     ("http://", true),
@@ -19,8 +19,8 @@ const LINKS: [(&str, bool); 9] = [
 
 #[test]
 fn a_link_is_visible_and_has_a_scheme(rt: HostRuntime) {
-    for (text, is_link) in LINKS {
-        assert_eq!(rt; is_read(text), is_link, "{text}");
+    for (text, is_link) in &LINKS {
+        assert!(rt; is_read(text) == *is_link, "{text}");
     }
 }
 
@@ -42,7 +42,7 @@ fn a_link_has_512_bytes_at_most(rt: HostRuntime) -> Result<(), Fail> {
 }
 
 /// A number of letters, and whether they are a key and a headline.
-const LENGTHS: [(usize, bool, bool); 8] = [
+static LENGTHS: [(usize, bool, bool); 8] = [
     (0, false, false),
     (1, false, true),
     (7, false, true),
@@ -55,15 +55,15 @@ const LENGTHS: [(usize, bool, bool); 8] = [
 
 #[test]
 fn keys_and_headlines_have_their_lengths(rt: HostRuntime) -> Result<(), Fail> {
-    for (length, key, headline) in LENGTHS {
-        let text = "k".repeat(rt.alloc(), length)?;
-        check_text(&rt, text.as_str(), key, headline);
+    for (length, key, headline) in &LENGTHS {
+        let text = "k".repeat(rt.alloc(), *length)?;
+        check_text(&rt, text.as_str(), *key, *headline);
     }
     Ok(())
 }
 
 /// A text, and whether it is a key and a headline.
-const TEXTS: [(&str, bool, bool); 4] = [
+static TEXTS: [(&str, bool, bool); 4] = [
     ("red shoes", false, true),
     ("caf\u{E9}-shoes", false, true),
     ("red\tshoes", false, false),
@@ -72,8 +72,8 @@ const TEXTS: [(&str, bool, bool); 4] = [
 
 #[test]
 fn keys_and_headlines_have_their_bytes(rt: HostRuntime) {
-    for (text, key, headline) in TEXTS {
-        check_text(&rt, text, key, headline);
+    for (text, key, headline) in &TEXTS {
+        check_text(&rt, text, *key, *headline);
     }
 }
 
@@ -86,7 +86,7 @@ fn check_text(rt: &impl Abort, text: &str, key: bool, headline: bool) {
 type Numbers = (u64, u64, u64, u64, u64, u64);
 
 /// What a row shows, settings, and whether they are in range.
-const SETTINGS: [(&str, Numbers, bool); 13] = [
+static SETTINGS: [(&str, Numbers, bool); 13] = [
     ("the least", (1, 0, 1, 1, 1, 1), true),
     (
         "the greatest",
@@ -115,8 +115,8 @@ const SETTINGS: [(&str, Numbers, bool); 13] = [
 
 #[test]
 fn settings_are_in_range(rt: HostRuntime) {
-    for (case, numbers, made) in SETTINGS {
-        assert_eq!(rt; settings_of(numbers).is_some(), made, "{case}");
+    for (case, numbers, made) in &SETTINGS {
+        assert!(rt; settings_of(*numbers).is_some() == *made, "{case}");
     }
 }
 

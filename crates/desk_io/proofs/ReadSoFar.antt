@@ -142,3 +142,18 @@ module _ (texts : List NumberedText) (now : NumberedValue) (left : Option (List 
     count = now.count;
     told = ap (λ (all : List ℕ). lines_told 0 (lines all)) (sym (append-nil read.part)) ∙ read.tells [] ∙ ap (behind_texts texts) (lines_told-nil now.count) ∙ behind-none texts (Ok now.count);
   }
+
+nothing_behind : (held bytes : List ℕ) → held ++ bytes ≡ [] → bytes ≡ []
+nothing_behind [] bytes none = none
+nothing_behind (byte ∷ held) bytes none = absurd (cc)
+
+-- behind a line that no line feed ended nothing is left
+pub step-last : (was now : NumberedValue) (left left_now : Option (List ℕ)) → IsStep was now left left_now → now.is_ended ≡ false → IfSome left_now (λ bytes. bytes ≡ [])
+step-last was now left None step last = tt
+step-last was now left (Some bytes) step last = go (unread was left) step.first step.rest
+  where
+    go : (ahead : Option (List ℕ)) → IfSome ahead (λ all. IsFirstOf all was.count now) → Some (now.held ++ bytes) ≡ option_map after_first_line ahead → bytes ≡ []
+    go None first rest = absurd (cc)
+    go (Some all) first rest =
+        let behind : now.held ++ bytes ≡ after_first_line all = cc in
+        nothing_behind now.held bytes (behind ∙ cut-none all (sym first.ended ∙ last))

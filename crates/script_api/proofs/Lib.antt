@@ -6,3 +6,4 @@ pub mod FormLemmas
 pub mod LineLemmas
 pub mod Spelling
 pub mod Turning
+pub mod Finishing

@@ -52,11 +52,11 @@ pub record IsCutOff (bytes : List ℕ) (left : Option (List ℕ)) (calls : List 
   pub read : AreCutOff bytes left texts
   pub spelled : script_of read.part ≡ record { calls = calls; end = Ended }
 
--- the calls that are made of the script of some bytes: all of them where it ended as the bytes say, those of what was
--- read where a read failed, and the first of them where a write failed or memory was wanted
+-- the calls that are made of the script of some bytes: all of them where it ended as the bytes say, and the first of
+-- them where a read failed, which are those of what was read, or a write, or where memory was wanted
 abbrev pub AreMade : EndKind → List ℕ → Option (List ℕ) → ScriptEnd → List (ℕ × Call) → Type 0
 AreMade ByBytes bytes left ending calls = script_of bytes ≡ record { calls = calls; end = ending }
-AreMade ByRead bytes left ending calls = IsCutOff bytes left calls
+AreMade ByRead bytes left ending calls = AreFirstOf calls (script_of bytes).calls × IsCutOff bytes left calls
 AreMade ByWrite bytes left ending calls = AreFirstOf calls (script_of bytes).calls
 AreMade ByMemory bytes left ending calls = AreFirstOf calls (script_of bytes).calls
 

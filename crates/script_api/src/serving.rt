@@ -28,9 +28,7 @@ pub struct LineServing {
 impl LineServing {
     /// Before the first line.
     pub fn new(alloc: Global) -> Result<LineServing, NoMemory>
-        ensures lines {
-            IfOk result (λ serving. serving.lines ≡ record { count = 0; held = []; text = []; is_ended = true })
-        }
+        ensures lines { IfOk result (λ serving. serving.lines ≡ record { count = 0; held = []; text = []; is_ended = true }) }
         ensures waiting { IfOk result (λ serving. serving.answers ≡ []) }
     {
         Ok(LineServing {
@@ -51,10 +49,8 @@ impl LineServing {
         requires waiting { self.old.answers ≡ [] }
         requires legal { IsLegal (V.service service.old).opening.settings (V.service service.old).seen }
         ensures home { V.home service.new ≡ V.home service.old }
-        ensures done {
-            IsDone (script_at (V.service service.old) (S.source input.old) (T.sink output.old))
-                (script_at (V.service service.new) (S.source input.new) (T.sink output.new)) result
-        }
+        ensures done { IsDone (script_at (V.service service.old) (S.source input.old) (T.sink output.old))
+            (script_at (V.service service.new) (S.source input.new) (T.sink output.new)) result }
         ensures sink_side { S.sink_side input.new ≡ S.sink_side input.old }
         ensures source_side { T.source_side output.new ≡ T.source_side output.old }
     {
@@ -74,20 +70,16 @@ impl LineServing {
         output: &mut T,
     ) -> Result<Option<ScriptEnd>, WriteFault>
         ensures home { V.home service.new ≡ V.home service.old }
-        ensures turn {
-            (start : ScriptState)
+        ensures turn { (start : ScriptState)
             → IsSoFar start
-                (midway (script_at (V.service service.old) (S.source input.old) (T.sink output.old))
-                    self.old.lines self.old.answers)
+            (midway (script_at (V.service service.old) (S.source input.old) (T.sink output.old))
+            self.old.lines self.old.answers)
             → Goes start
-                (midway (script_at (V.service service.new) (S.source input.new) (T.sink output.new))
-                    self.new.lines self.new.answers)
-                result
-        }
-        ensures counts {
-            result ≡ Ok None →
-            (self.old.lines.count < self.new.lines.count) × (self.new.lines.count ≤ INPUT_LINES_MAX)
-        }
+            (midway (script_at (V.service service.new) (S.source input.new) (T.sink output.new))
+            self.new.lines self.new.answers)
+            result }
+        ensures counts { result ≡ Ok None →
+            (self.old.lines.count < self.new.lines.count) × (self.new.lines.count ≤ INPUT_LINES_MAX) }
         ensures sink_side { S.sink_side input.new ≡ S.sink_side input.old }
         ensures source_side { T.source_side output.new ≡ T.source_side output.old }
     {
@@ -121,16 +113,14 @@ impl LineServing {
     ) -> Result<Option<ScriptEnd>, WriteFault>
         ensures lines { self.new.lines ≡ self.old.lines }
         ensures home { V.home service.new ≡ V.home service.old }
-        ensures turn {
-            (start : ScriptState) → (source : SourceView)
+        ensures turn { (start : ScriptState) → (source : SourceView)
             → IsAtLine start
-                (midway (script_at (V.service service.old) source (T.sink output.old))
-                    self.old.lines self.old.answers)
+            (midway (script_at (V.service service.old) source (T.sink output.old))
+            self.old.lines self.old.answers)
             → Goes start
-                (midway (script_at (V.service service.new) source (T.sink output.new))
-                    self.new.lines self.new.answers)
-                result
-        }
+            (midway (script_at (V.service service.new) source (T.sink output.new))
+            self.new.lines self.new.answers)
+            result }
         ensures source_side { T.source_side output.new ≡ T.source_side output.old }
     {
         match read_line(self.alloc, self.lines.text()) {

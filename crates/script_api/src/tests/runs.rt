@@ -2,7 +2,8 @@
 
 ghost use Rattle.std.specs.Prelude.{◌≤◌, [], true};
 
-use crate::{ScriptEnd, script};
+use crate::ScriptEnd::{self, BadLine, Ended, LongLine, NotBuilt, TooManyLines};
+use crate::script;
 use desk_io::{MemSink, MemSource};
 use desk_types::{Call, Fault, Reply, Service};
 use query_words::NoMemory;
@@ -23,13 +24,7 @@ impl Service for Full {
 
     ghost home = { λ s. 0 };
 
-    ghost opening = { λ s. empty (record usual { journal = 0 }) };
-
-    ghost seen = { λ s. [] };
-
-    ghost me = { λ s. 1 };
-
-    ghost sure = { λ s. true };
+    ghost service = { λ s. record { me = 1; opening = empty (record usual { journal = 0 }); seen = []; sure = true } };
 
     fn history_is_legal(&self) {}
 
@@ -62,70 +57,46 @@ fn ran(
     Ok((end, output.bytes().to_vec(alloc)?))
 }
 
-/// What is shown, a script, how it ends, and the lines of its answers.
-const SCRIPTS: [(&str, &[u8], ScriptEnd, &[u8]); 9] = [
-    ("nothing", b"", ScriptEnd::Ended, b""),
-    (
-        "two calls",
-        b"1 click 1\n2 click 1\n",
-        ScriptEnd::Ended,
-        b"fault memory\nfault journal\n",
-    ),
-    (
-        "a last line without a line feed",
-        b"1 click 1\n2 click 1",
-        ScriptEnd::Ended,
-        b"fault memory\nfault journal\n",
-    ),
-    (
-        "carriage returns",
-        b"1 click 1\r\n2 click 1\r\n",
-        ScriptEnd::Ended,
-        b"fault memory\nfault journal\n",
-    ),
-    (
-        "lines that are passed over",
-        b"#\n\n1 click 1\n# a\n",
-        ScriptEnd::Ended,
-        b"fault memory\n",
-    ),
-    (
-        "they are counted",
-        b"# a\n\n1 click 1\nclick 1\n2 click 1\n",
-        ScriptEnd::BadLine(4),
-        b"fault memory\n",
-    ),
-    (
-        "a carriage return without a line feed",
-        b"1 click 1\r",
-        ScriptEnd::BadLine(1),
-        b"",
-    ),
-    ("no UTF-8", b"\xFF\n", ScriptEnd::BadLine(1), b""),
-    (
-        "a command without a call yet",
-        b"1 click 1\n1 credit 1\n",
-        ScriptEnd::NotBuilt(2),
-        b"fault memory\n",
-    ),
-];
+/// The lines of some answers of the service: `m` of want of memory, `j` of a full journal.
+fn lines_of(alloc: Global, answers: &str) -> Result<Vec<u8>, NoMemory> {
+    let mut lines = Vec::new(alloc);
+    for answer in answers.as_bytes() {
+        match answer {
+            b'm' => lines.extend_from_slice(b"fault memory\n")?,
+            _ => lines.extend_from_slice(b"fault journal\n")?,
+        }
+    }
+    Ok(lines)
+}
 
-/// Checks how scripts end and what is written, where they come in pieces of at most `cut` bytes.
+/// Checks how scripts end and which answers are written, where they come in pieces of at most `cut` bytes.
 fn check_scripts(
     rt: &(impl Abort + AllocGlobal),
     cut: u64,
-    rows: &[(&str, &[u8], ScriptEnd, &[u8])],
+    rows: &[(&[u8], ScriptEnd, &str)],
 ) -> Result<(), Fail>
     requires { 1 ≤ cut }
 {
     let alloc = rt.alloc();
-    for (case, bytes, end, lines) in rows {
+    for (bytes, end, answers) in rows {
         let (found, written) = ran(alloc, bytes, cut, Vec::new(alloc), Vec::new(alloc))?;
-        assert!(rt; found == *end, "{case}, in pieces of {cut}");
-        assert_eq!(rt; written.as_slice(), *lines, "{case}, in pieces of {cut}");
+        assert!(rt; found == *end, "{bytes:?}");
+        assert!(rt; written == lines_of(alloc, answers)?, "{bytes:?}");
     }
     Ok(())
 }
+
+/// A script, how it ends, and its answers.
+const SCRIPTS: [(&[u8], ScriptEnd, &str); 8] = [
+    (b"", Ended, ""),
+    (b"1 click 1\n2 click 1\n", Ended, "mj"),
+    (b"1 click 1\r\n2 click 1", Ended, "mj"),
+    (b"#\n\n1 click 1\n# \xFF\n", Ended, "m"),
+    (b"# a\n\n1 click 1\nclick 1\n2 click 1\n", BadLine(4), "m"),
+    (b"1 click 1\r", BadLine(1), ""),
+    (b"\xFF\n", BadLine(1), ""),
+    (b"1 click 1\n1 credit 1\n", NotBuilt(2), "m"),
+];
 
 #[test]
 fn a_script_ends_by_its_lines_in_any_pieces(rt: HostRuntime) -> Result<(), Fail> {
@@ -142,78 +113,57 @@ fn around(alloc: Global, byte: u8, count: usize) -> Result<Vec<u8>, NoMemory> {
     Ok(bytes)
 }
 
-/// What is shown, how many bytes of which value stand between two calls, how the script ends, and the
-/// lines of its answers.
-const AROUND: [(&str, u8, usize, ScriptEnd, &[u8]); 4] = [
-    (
-        "4,096 bytes",
-        b'#',
-        4_096,
-        ScriptEnd::Ended,
-        b"fault memory\nfault journal\n",
-    ),
-    (
-        "4,097 bytes",
-        b'#',
-        4_097,
-        ScriptEnd::LongLine(2),
-        b"fault memory\n",
-    ),
-    (
-        "1,000,000 lines",
-        b'\n',
-        999_997,
-        ScriptEnd::Ended,
-        b"fault memory\nfault journal\n",
-    ),
-    (
-        "1,000,001 lines",
-        b'\n',
-        999_998,
-        ScriptEnd::TooManyLines,
-        b"fault memory\n",
-    ),
+/// How many bytes of which value stand between two calls, how the script ends, and its answers.
+const AROUND: [(u8, usize, ScriptEnd, &str); 4] = [
+    (b'#', 4_096, Ended, "mj"),
+    (b'#', 4_097, LongLine(2), "m"),
+    (b'\n', 999_997, Ended, "mj"),
+    (b'\n', 999_998, TooManyLines, "m"),
 ];
 
 #[test]
 fn a_script_ends_at_a_limit(rt: HostRuntime) -> Result<(), Fail> {
     let alloc = rt.alloc();
-    for (case, byte, count, end, lines) in AROUND {
+    for (byte, count, end, answers) in AROUND {
         let bytes = around(alloc, byte, count)?;
         let (found, written) = ran(alloc, &bytes, 4_096, Vec::new(alloc), Vec::new(alloc))?;
-        assert!(rt; found == end, "{case}");
-        assert_eq!(rt; written.as_slice(), lines, "{case}");
+        assert!(rt; found == end, "{count}");
+        assert!(rt; written == lines_of(alloc, answers)?, "{count}");
     }
     Ok(())
 }
 
 const THREE: &[u8] = b"1 click 1\n3 click 1\n5 click 1\n";
 
+/// The read in pieces of seven that fails, and how many lines were read whole before it.
+const READS: [(u64, usize); 6] = [(1, 0), (2, 0), (3, 1), (4, 2), (5, 2), (6, 3)];
+
 #[test]
 fn a_failed_read_ends_a_script_behind_a_line(rt: HostRuntime) -> Result<(), Fail> {
     let alloc = rt.alloc();
-    // how many lines were read whole before each read in pieces of seven
-    for (read, lines) in [(1, 0), (2, 0), (3, 1), (4, 2), (5, 2), (6, 3)] {
+    for (read, lines) in READS {
         let (end, written) = ran(alloc, THREE, 7, vec![in alloc; read]?, Vec::new(alloc))?;
         assert!(rt; end == ScriptEnd::ReadFault, "read {read}");
         assert_eq!(rt; written.len(), 13 * lines, "read {read}");
     }
     let (end, _) = ran(alloc, THREE, 7, vec![in alloc; 7]?, Vec::new(alloc))?;
-    assert!(rt; end == ScriptEnd::Ended, "no seventh read is made");
+    assert!(rt; end == Ended, "no seventh read is made");
     Ok(())
 }
+
+/// The write that fails, where each read gives a line, and how many lines were written before it.
+const WRITES: [(u64, usize); 3] = [(1, 0), (2, 1), (3, 2)];
 
 #[test]
 fn each_answer_is_written_before_the_next_read(rt: HostRuntime) -> Result<(), Fail> {
     let alloc = rt.alloc();
-    // each read gives a line, so that a write comes before each read but the first
-    for (write, lines) in [(1, 0), (2, 1), (3, 2)] {
+    for (write, lines) in WRITES {
         let (end, written) = ran(alloc, THREE, 10, Vec::new(alloc), vec![in alloc; write]?)?;
         assert!(rt; end == ScriptEnd::WriteFault, "write {write}");
         assert_eq!(rt; written.len(), 13 * lines, "write {write}");
     }
     let (end, written) = ran(alloc, THREE, 10, Vec::new(alloc), vec![in alloc; 4]?)?;
-    assert!(rt; end == ScriptEnd::Ended, "no fourth write is made");
+    assert!(rt; end == Ended, "no fourth write is made");
     assert_eq!(rt; written.len(), 39);
     Ok(())
 }

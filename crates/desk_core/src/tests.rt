@@ -1,140 +1,189 @@
 //! Tests of what a desk answers, call after call.
 
-use super::*;
-use desk_types::{Call, Detail, Fault, Refusal, Reply, Settings, Spot};
+use crate::Desk;
+use desk_types::{Call, Fault, Refusal, Reply, Settings, Spot};
 use query_words::Text;
 use std::alloc::{AllocError, Global};
-use std::fmt::Write;
 use std::process::Abort;
-use std::str::Split;
-use std::test::Fail;
 
 mod limits;
 mod money;
 mod refusals;
 
-/// The next field of a line as a text.
-fn text(rt: &(impl Abort + AllocGlobal), fields: &mut Split<'_, char>) -> Result<Text, AllocError> {
-    Text::new(rt.alloc(), fields.next().expect(rt, "a text stands there"))
+/// An account's number and a key.
+type Who = (u64, &'static str);
+
+/// The first account with its key and with a wrong one, and no account.
+const ONE: Who = (1, "secret01");
+
+const WRONG: Who = (1, "wrongkey");
+
+const NOBODY: Who = (9, "wrongkey");
+
+/// A link.
+const LINK: &str = "http://s.example/";
+
+/// A call, told by its numbers and texts in the order of its fields.
+#[derive(Clone, Copy)]
+enum Asked {
+    Account(&'static str),
+    Campaign(Who, u64),
+    Line(Who, u64, u64, &'static str, &'static str, &'static str),
+    Negative(Who, u64, &'static str),
+    Drop(Who, u64),
+    Search(&'static str),
+    Places(u64, &'static str),
+    Click(u64),
 }
 
-/// The next field of a line as a number.
-fn number(rt: &impl Abort, fields: &mut Split<'_, char>) -> u64 {
-    let field = fields.next().expect(rt, "a number stands there");
-    field.parse().ok().expect(rt, "it is a number")
+/// An answer: a page by its first placement, and the line and the price of each place.
+#[derive(Clone, Copy)]
+enum Told {
+    Made(u64),
+    Done,
+    Page(u64, &'static [(Shown, u64)]),
+    Went(&'static str),
+    No(Refusal),
+    Full(u64, u64),
 }
 
-/// The call that the fields of a line tell.
-fn call(rt: &(impl Abort + AllocGlobal), fields: &mut Split<'_, char>) -> Result<Call, AllocError> {
-    let word = fields.next().expect(rt, "a command stands there");
-    match word {
-        "account" => Ok(Call::AddAccount {
-            key: text(rt, fields)?,
+/// A page without places.
+const NO_PLACE: Told = Told::Page(0, &[]);
+
+/// A line by its account, its campaign and its number.
+type Shown = (u64, u64, u64);
+
+/// A call and its answer.
+type Row = (Asked, Told);
+
+/// The call that is told.
+fn call_of(alloc: Global, asked: Asked) -> Result<Call, AllocError> {
+    match asked {
+        Asked::Account(key) => Ok(Call::AddAccount {
+            key: Text::new(alloc, key)?,
         }),
-        "campaign" => Ok(Call::AddCampaign {
-            account: number(rt, fields),
-            key: text(rt, fields)?,
-            budget: number(rt, fields),
+        Asked::Campaign((account, key), budget) => Ok(Call::AddCampaign {
+            account,
+            key: Text::new(alloc, key)?,
+            budget,
         }),
-        "line" => line(rt, fields),
-        "negative" => Ok(Call::AddNegative {
-            account: number(rt, fields),
-            key: text(rt, fields)?,
-            campaign: number(rt, fields),
-            pattern: text(rt, fields)?,
+        Asked::Line((account, key), campaign, bid, pattern, headline, link) => Ok(Call::AddLine {
+            account,
+            key: Text::new(alloc, key)?,
+            campaign,
+            bid,
+            pattern: Text::new(alloc, pattern)?,
+            headline: Text::new(alloc, headline)?,
+            link: Text::new(alloc, link)?,
         }),
-        "drop" => Ok(Call::DropNegative {
-            account: number(rt, fields),
-            key: text(rt, fields)?,
-            negative: number(rt, fields),
+        Asked::Negative((account, key), campaign, pattern) => Ok(Call::AddNegative {
+            account,
+            key: Text::new(alloc, key)?,
+            campaign,
+            pattern: Text::new(alloc, pattern)?,
         }),
-        "search" => Ok(Call::Search {
-            text: text(rt, fields)?,
-            places: None,
+        Asked::Drop((account, key), negative) => Ok(Call::DropNegative {
+            account,
+            key: Text::new(alloc, key)?,
+            negative,
         }),
-        "places" => Ok(Call::Search {
-            places: Some(number(rt, fields)),
-            text: text(rt, fields)?,
-        }),
-        _ => Ok(Call::Click {
-            placement: number(rt, fields),
-        }),
+        Asked::Search(text) => search_of(alloc, text, None),
+        Asked::Places(places, text) => search_of(alloc, text, Some(places)),
+        Asked::Click(placement) => Ok(Call::Click { placement }),
     }
 }
 
-/// The call that makes a line, whose fields these are.
-fn line(rt: &(impl Abort + AllocGlobal), fields: &mut Split<'_, char>) -> Result<Call, AllocError> {
-    Ok(Call::AddLine {
-        account: number(rt, fields),
-        key: text(rt, fields)?,
-        campaign: number(rt, fields),
-        bid: number(rt, fields),
-        pattern: text(rt, fields)?,
-        headline: text(rt, fields)?,
-        link: text(rt, fields)?,
+/// A search for so many places.
+fn search_of(alloc: Global, text: &str, places: Option<u64>) -> Result<Call, AllocError> {
+    Ok(Call::Search {
+        text: Text::new(alloc, text)?,
+        places,
     })
 }
 
-/// An answer as a text.
-fn answer_text(alloc: Global, answer: &Result<Reply, Fault>) -> Result<String, AllocError> {
-    let mut out = String::new(alloc);
+/// Whether an answer is the one that is told.
+fn is_told(answer: &Result<Reply, Fault>, told: Told) -> bool {
     match answer {
-        Ok(Reply::Made(number)) => write!(out, "made {number}")?,
-        Ok(Reply::Done) => out.push_str("done")?,
-        Ok(Reply::Page(spots)) => page(&mut out, spots.as_slice())?,
-        Ok(Reply::Went(link)) => write!(out, "went {}", link.as_str())?,
-        Ok(Reply::Refused(refusal)) => refused(&mut out, refusal)?,
-        Err(Fault::JournalFull { entries, bytes }) => write!(out, "full {entries} {bytes}")?,
-        Err(Fault::NoMemory) => out.push_str("no memory")?,
-        Err(Fault::Keeper { .. }) => out.push_str("keeper")?,
-    }
-    Ok(out)
-}
-
-/// A page: of each place the line, the price and the placement.
-fn page(out: &mut String, spots: &[Spot]) -> Result<(), AllocError> {
-    write!(out, "page {}", spots.len())?;
-    for spot in spots {
-        write!(out, ", {} {}", spot.place, spot.account)?;
-        write!(out, ".{}.{}", spot.campaign, spot.line)?;
-        write!(out, " {} #{}", spot.price, spot.placement)?;
-    }
-    Ok(())
-}
-
-/// A refusal: its name, and its detail where it has one.
-fn refused(out: &mut String, refusal: &Refusal) -> Result<(), AllocError> {
-    out.push_str(refusal.name())?;
-    match refusal.detail() {
-        Detail::Nothing => Ok(()),
-        Detail::Field(field) => write!(out, " {}", field.name()),
-        Detail::Cause(cause) => write!(out, " {cause:?}"),
-        Detail::Number(number) => write!(out, " {number}"),
+        Ok(reply) => is_replied(reply, told),
+        Err(Fault::JournalFull { entries, bytes }) => is_full(*entries, *bytes, told),
+        Err(_) => false,
     }
 }
 
-/// Makes the calls of a text on a desk and compares the answers. Each line is a moment and a call,
-/// with semicolons between their fields, then an arrow and the answer.
-fn check(rt: &(impl Abort + AllocGlobal), desk: &mut Desk, lines: &str) -> Result<(), Fail> {
-    for line in lines.lines() {
-        let (asked, wanted) = line.split_once(" -> ").expect(rt, "an answer stands there");
-        let mut fields = asked.split(';');
-        let moment = number(rt, &mut fields);
-        let call = call(rt, &mut fields)?;
-        let answer = desk.call(1, moment, call);
-        let found = answer_text(rt.alloc(), &answer)?;
-        assert_eq!(rt; found.as_str(), wanted, "{line}");
+/// Whether the journal is told to be full of so many entries and bytes.
+fn is_full(entries: u64, bytes: u64, told: Told) -> bool {
+    matches!(told, Told::Full(wanted, most) if entries == wanted && bytes == most)
+}
+
+/// Whether a reply is the one that is told.
+fn is_replied(reply: &Reply, told: Told) -> bool {
+    match reply {
+        Reply::Made(number) => matches!(told, Told::Made(wanted) if *number == wanted),
+        Reply::Done => matches!(told, Told::Done),
+        Reply::Page(spots) => is_page(spots.as_slice(), told),
+        Reply::Went(link) => matches!(told, Told::Went(wanted) if link.as_str() == wanted),
+        Reply::Refused(refusal) => matches!(told, Told::No(wanted) if *refusal == wanted),
     }
-    Ok(())
+}
+
+/// Whether a page is the one that is told.
+fn is_page(spots: &[Spot], told: Told) -> bool {
+    let Told::Page(first, wanted) = told else {
+        return false;
+    };
+    let mut rows = spots.iter().zip(wanted).enumerate();
+    spots.len() == wanted.len()
+        && rows.all(|(behind, (spot, shown))| is_shown(spot, behind as u64, first, *shown))
+}
+
+/// Whether a place with so many before it is the one that is told.
+fn is_shown(spot: &Spot, behind: u64, first: u64, shown: (Shown, u64)) -> bool {
+    spot.place == behind.saturating_add(1)
+        && spot.placement == first.saturating_add(behind)
+        && ((spot.account, spot.campaign, spot.line), spot.price) == shown
+}
+
+/// Whether a desk answers a call at a moment as is told.
+fn answers(alloc: Global, desk: &mut Desk, moment: u64, row: &Row) -> bool {
+    let (asked, told) = row;
+    let Ok(call) = call_of(alloc, *asked) else {
+        return false;
+    };
+    is_told(&desk.call(1, moment, call), *told)
+}
+
+/// Makes the calls of a table on a desk, each of which is to be answered as is told.
+fn check(rt: &(impl Abort + AllocGlobal), desk: &mut Desk, rows: &[Row]) {
+    for (number, row) in rows.iter().enumerate() {
+        assert!(rt; answers(rt.alloc(), desk, 1, row), "row {number}");
+    }
+}
+
+/// The same of calls at their moments, on a new desk.
+fn check_at(rt: &(impl Abort + AllocGlobal), rows: &[(u64, Row)]) {
+    let mut desk = Desk::new(rt.alloc(), Settings::usual());
+    for (number, (moment, row)) in rows.iter().enumerate() {
+        assert!(rt;
+            answers(rt.alloc(), &mut desk, *moment, row),
+            "row {number}"
+        );
+    }
 }
 
 /// The same on a new desk with the usual settings.
-fn check_new(rt: &(impl Abort + AllocGlobal), lines: &str) -> Result<(), Fail> {
-    let mut desk = Desk::new(rt.alloc(), Settings::usual());
-    check(rt, &mut desk, lines)
+fn check_new(rt: &(impl Abort + AllocGlobal), rows: &[Row]) {
+    check(rt, &mut Desk::new(rt.alloc(), Settings::usual()), rows);
 }
 
-/// Settings with these limits of entries, of bytes and of placements, and else the usual ones.
-fn limited(rt: &impl Abort, entries: u64, bytes: u64, placements: u64) -> Settings {
-    Settings::new(5, 0, 4, entries, bytes, placements).expect(rt, "they are in range")
+/// A reserve, a floor, places, entries and bytes of a journal, and placements.
+type Numbers = (u64, u64, u64, u64, u64, u64);
+
+/// The same on a new desk with these settings.
+fn check_with(rt: &(impl Abort + AllocGlobal), numbers: Numbers, rows: &[Row]) {
+    let (reserve, floor, places, entries, bytes, placements) = numbers;
+    let settings = Settings::new(reserve, floor, places, entries, bytes, placements).expect(
+        rt,
+        "they are in range",
+    );
+    check(rt, &mut Desk::new(rt.alloc(), settings), rows);
 }

@@ -11,6 +11,8 @@ use std::sync::Wait;
 use std::test::Fail;
 use std::thread::{Threads, join};
 
+mod seats;
+
 // A list of numbers, each by the caller of that number.
 #[derive(Drop)]
 struct Numbers {
@@ -165,7 +167,8 @@ fn check_run<R: Threads + Wait + Abort + Sync>(
 fn each_caller_adds_its_own_items(rt: HostRuntime) -> Result<(), Fail> {
     check_run(&rt, rt.alloc(), 1, 10, 10)?;
     check_run(&rt, rt.alloc(), 2, 100, 200)?;
-    check_run(&rt, rt.alloc(), 8, 2000, 16000)
+    check_run(&rt, rt.alloc(), 8, 2000, 16000)?;
+    check_run(&rt, rt.alloc(), 64, 5, 320)
 }
 
 #[test]

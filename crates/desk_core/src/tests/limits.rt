@@ -1,150 +1,177 @@
 //! The last value of each limit, and the first that is refused.
 
-use super::{Desk, check, check_new, limited};
-use desk_types::Settings;
+use super::Asked::{Account, Campaign, Click, Drop, Line, Negative, Search};
+use super::Told::{Done, Full, Made, No, Page};
+use super::{LINK, NO_PLACE, ONE, Row, check, check_with, search_of};
+use crate::Desk;
+use desk_types::Refusal::{
+    AccountsFull, CampaignsFull, LinesFull, NegativesFull, NoPlacement, PlacementsFull,
+    QueryTooLong,
+};
+use desk_types::{Call, Refusal, Reply, Settings};
+use query_words::Text;
+use std::alloc::{AllocError, Global};
 use std::process::Abort;
 use std::test::Fail;
 
-/// An account with a campaign and a line.
-const OPENED: &str = "1;account;secret01 -> made 1\n\
-    1;campaign;1;secret01;1000 -> made 1\n\
-    1;line;1;secret01;1;50;shoes;Shoes;http://s.example/ -> made 1";
+/// An account with a campaign.
+static OPENED: [Row; 2] = [
+    (Account("secret01"), Made(1)),
+    (Campaign(ONE, 1_000), Made(1)),
+];
 
-/// Makes a call so many times, with the numbers from 1 on between front and back, each of which makes
-/// the thing of its number; one more is refused as `full` says.
-fn fill(
+/// What is made until it is full.
+#[derive(Clone, Copy)]
+enum Thing {
+    Accounts,
+    Campaigns,
+    Lines,
+    Negatives,
+}
+
+/// The call that makes a thing, with a word of its own.
+fn call_for(alloc: Global, thing: Thing, word: &str) -> Result<Call, AllocError> {
+    let key = Text::new(alloc, "secret01")?;
+    match thing {
+        Thing::Accounts => Ok(Call::AddAccount { key }),
+        Thing::Campaigns => Ok(Call::AddCampaign {
+            account: 1,
+            key,
+            budget: 1000,
+        }),
+        Thing::Lines => line_of(alloc, key, word),
+        Thing::Negatives => Ok(Call::AddNegative {
+            account: 1,
+            key,
+            campaign: 1,
+            pattern: Text::new(alloc, word)?,
+        }),
+    }
+}
+
+/// The call that makes a line of a word.
+fn line_of(alloc: Global, key: Text, word: &str) -> Result<Call, AllocError> {
+    Ok(Call::AddLine {
+        account: 1,
+        key,
+        campaign: 1,
+        bid: 50,
+        pattern: Text::new(alloc, word)?,
+        headline: Text::new(alloc, word)?,
+        link: Text::new(alloc, LINK)?,
+    })
+}
+
+/// The answer to the call that makes a thing, whose word is this number.
+fn made(alloc: Global, desk: &mut Desk, thing: Thing, number: u64) -> Option<Reply> {
+    let word = format!(in alloc; "{number}").ok()?;
+    let call = call_for(alloc, thing, word.as_str()).ok()?;
+    desk.call(1, 1, call).ok()
+}
+
+/// Whether a thing is made as the one of this number.
+fn is_made(alloc: Global, desk: &mut Desk, thing: Thing, number: u64) -> bool {
+    matches!(made(alloc, desk, thing, number), Some(Reply::Made(found)) if found == number)
+}
+
+/// Whether a further thing is refused so.
+fn is_refused(alloc: Global, desk: &mut Desk, thing: Thing, full: Refusal) -> bool {
+    matches!(made(alloc, desk, thing, 0), Some(Reply::Refused(found)) if found == full)
+}
+
+/// Makes things from the first to the last number, and one more, which is refused. It gives the desk.
+fn check_filled(
     rt: &(impl Abort + AllocGlobal),
-    desk: &mut Desk,
-    most: u64,
-    front: &str,
-    back: &str,
-    full: &str,
-) -> Result<(), Fail> {
-    for number in 1..most {
-        let line = format!(in rt.alloc(); "{front}{number}{back} -> made {number}")?;
-        check(rt, desk, line.as_str())?;
+    thing: Thing,
+    first: u64,
+    last: u64,
+    full: Refusal,
+) -> Desk {
+    let mut desk = Desk::new(rt.alloc(), Settings::usual());
+    check(rt, &mut desk, &OPENED);
+    for number in first..=last {
+        assert!(rt; is_made(rt.alloc(), &mut desk, thing, number), "{number}");
     }
-    let last = format!(in rt.alloc();
-        "{front}0{back} -> made {most}\n{front}9999{back} -> {full}"
-    )?;
-    check(rt, desk, last.as_str())
+    assert!(rt; is_refused(rt.alloc(), &mut desk, thing, full));
+    desk
 }
 
 #[test]
-fn a_desk_has_a_thousand_accounts(rt: HostRuntime) -> Result<(), Fail> {
+fn a_desk_has_1000_accounts_and_an_account_64_campaigns_and_1000_lines(rt: HostRuntime) {
+    check_filled(&rt, Thing::Accounts, 2, 1_000, AccountsFull);
+    check_filled(&rt, Thing::Campaigns, 2, 64, CampaignsFull);
+    check_filled(&rt, Thing::Lines, 1, 1_000, LinesFull);
+}
+
+/// Where there are 500 negatives, a dropped one counts, and lives again.
+static DROPPED: [Row; 3] = [
+    (Drop(ONE, 7), Done),
+    (Negative(ONE, 1, "[7]"), No(NegativesFull)),
+    (Negative(ONE, 1, "7"), Made(7)),
+];
+
+#[test]
+fn an_account_has_500_negatives_dropped_ones_among_them(rt: HostRuntime) {
+    let mut desk = check_filled(&rt, Thing::Negatives, 1, 500, NegativesFull);
+    check(&rt, &mut desk, &DROPPED);
+}
+
+/// Of two placements.
+static PLACEMENTS: [Row; 7] = [
+    (Account("secret01"), Made(1)),
+    (Campaign(ONE, 1_000), Made(1)),
+    (Line(ONE, 1, 50, "shoes", "Ad", LINK), Made(1)),
+    (Search("shoes"), Page(1, &[((1, 1, 1), 5)])),
+    (Search("shoes"), Page(2, &[((1, 1, 1), 5)])),
+    (Search("shoes"), No(PlacementsFull)),
+    (Search("boots"), NO_PLACE),
+];
+
+/// Of three entries, which are judged before all else.
+static ENTRIES: [Row; 5] = [
+    (Account("secret01"), Made(1)),
+    (Campaign(ONE, 1_000), Made(1)),
+    (Click(9), No(NoPlacement)),
+    (Account("short"), Full(3, 16)),
+    (Click(9), Full(3, 16)),
+];
+
+/// Of 20 bytes, which are judged before all else.
+static BYTES: [Row; 6] = [
+    (Account("secret01"), Made(1)),
+    (Account("secret0123456"), Full(1, 8)),
+    (Account("secret012345"), Made(2)),
+    (Search("a"), Full(2, 20)),
+    (Search(""), NO_PLACE),
+    (Click(9), No(NoPlacement)),
+];
+
+#[test]
+fn placements_and_the_journal_end_at_their_limits(rt: HostRuntime) {
+    check_with(&rt, (5, 0, 4, 100, 10_000, 2), &PLACEMENTS);
+    check_with(&rt, (5, 0, 4, 3, 10_000, 100), &ENTRIES);
+    check_with(&rt, (5, 0, 4, 100, 20, 100), &BYTES);
+}
+
+/// The answer to a search of so many letters.
+fn searched(alloc: Global, letters: usize) -> Option<Reply> {
+    let text = "a".repeat(alloc, letters).ok()?;
+    let search = search_of(alloc, text.as_str(), None).ok()?;
+    Desk::new(alloc, Settings::usual()).call(1, 1, search).ok()
+}
+
+#[test]
+fn a_query_has_1024_bytes_at_most(rt: HostRuntime) {
+    assert!(rt; matches!(searched(rt.alloc(), 1_024), Some(Reply::Page(_))));
+    let longer = searched(rt.alloc(), 1_025);
+    assert!(rt; matches!(longer, Some(Reply::Refused(QueryTooLong(1_025)))));
+}
+
+#[test]
+fn a_desk_makes_room_and_tells_its_entries(rt: HostRuntime) -> Result<(), Fail> {
     let mut desk = Desk::new(rt.alloc(), Settings::usual());
-    fill(
-        &rt,
-        &mut desk,
-        1_000,
-        "1;account;secret0",
-        "",
-        "AccountsFull",
-    )
-}
-
-#[test]
-fn an_account_has_64_campaigns(rt: HostRuntime) -> Result<(), Fail> {
-    let mut desk = Desk::new(rt.alloc(), Settings::usual());
-    check(&rt, &mut desk, "1;account;secret01 -> made 1")?;
-    fill(
-        &rt,
-        &mut desk,
-        64,
-        "1;campaign;1;secret01;1",
-        "",
-        "CampaignsFull",
-    )
-}
-
-#[test]
-fn an_account_has_a_thousand_lines(rt: HostRuntime) -> Result<(), Fail> {
-    let mut desk = Desk::new(rt.alloc(), Settings::usual());
-    check(
-        &rt,
-        &mut desk,
-        "1;account;secret01 -> made 1\n1;campaign;1;secret01;1000 -> made 1",
-    )?;
-    fill(
-        &rt,
-        &mut desk,
-        1_000,
-        "1;line;1;secret01;1;50;word",
-        ";Word;http://s.example/",
-        "LinesFull",
-    )
-}
-
-#[test]
-fn an_account_has_500_negatives_dropped_ones_among_them(rt: HostRuntime) -> Result<(), Fail> {
-    let mut desk = Desk::new(rt.alloc(), Settings::usual());
-    check(&rt, &mut desk, OPENED)?;
-    fill(
-        &rt,
-        &mut desk,
-        500,
-        "1;negative;1;secret01;1;word",
-        "",
-        "NegativesFull",
-    )?;
-    check(
-        &rt,
-        &mut desk,
-        "1;drop;1;secret01;7 -> done\n\
-         1;negative;1;secret01;1;other -> NegativesFull\n\
-         1;negative;1;secret01;1;WORD7 -> made 7",
-    )
-}
-
-#[test]
-fn placements_end_at_their_limit(rt: HostRuntime) -> Result<(), Fail> {
-    let mut desk = Desk::new(rt.alloc(), limited(&rt, 100, 10_000, 2));
-    check(&rt, &mut desk, OPENED)?;
-    check(
-        &rt,
-        &mut desk,
-        "1;search;shoes -> page 1, 1 1.1.1 5 #1\n\
-         1;search;shoes -> page 1, 1 1.1.1 5 #2\n\
-         1;search;shoes -> PlacementsFull\n\
-         1;search;boots -> page 0",
-    )
-}
-
-#[test]
-fn the_entries_of_the_journal_are_judged_first(rt: HostRuntime) -> Result<(), Fail> {
-    let mut desk = Desk::new(rt.alloc(), limited(&rt, 3, 10_000, 100));
-    check(&rt, &mut desk, OPENED)?;
-    check(
-        &rt,
-        &mut desk,
-        "1;account;short -> full 3 51\n1;click;9 -> full 3 51",
-    )
-}
-
-#[test]
-fn the_bytes_of_the_journal_are_judged_first(rt: HostRuntime) -> Result<(), Fail> {
-    let mut desk = Desk::new(rt.alloc(), limited(&rt, 100, 20, 100));
-    check(
-        &rt,
-        &mut desk,
-        "1;account;secret01 -> made 1\n\
-         1;account;secret0123456 -> full 1 8\n\
-         1;account;secret012345 -> made 2\n\
-         1;search;a -> full 2 20\n\
-         1;search; -> page 0\n\
-         1;click;9 -> NoPlacement",
-    )?;
     desk.reserve(7)?;
-    assert_eq!(rt; desk.log().len(), 4);
+    check(&rt, &mut desk, &OPENED);
+    assert_eq!(rt; desk.log().len(), 2);
     Ok(())
-}
-
-#[test]
-fn a_query_of_1025_bytes_is_too_long(rt: HostRuntime) -> Result<(), Fail> {
-    let mut line = String::from_str(rt.alloc(), "1;places;0;")?;
-    for _ in 0..1_025 {
-        line.push('a')?;
-    }
-    line.push_str(" -> QueryTooLong 1025")?;
-    check_new(&rt, line.as_str())
 }

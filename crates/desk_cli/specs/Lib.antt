@@ -3,3 +3,7 @@ pub mod Form
 pub mod MeetsHeading
 pub mod Reading
 pub mod Ending
+pub mod Printout
+pub mod Saying
+pub mod ScriptCall
+pub mod TopCall

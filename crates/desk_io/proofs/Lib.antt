@@ -2,7 +2,9 @@ mod Moved
 pub mod Appending
 mod Sending
 pub mod Putting
-mod PieceTexts
+mod FlatMaps
+pub mod PuttingEach
+pub mod Pairs
 pub mod LineLaws
 mod Filling
 mod LineFeeds

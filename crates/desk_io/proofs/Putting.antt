@@ -50,6 +50,10 @@ puts_again {o = o} {p} {q} {w} {x} {y} {first} {second} {result = Err error} one
   faults = omega (arith, one.faults, two.faults);
 }
 
+-- the same bytes by another name
+pub puts_as : {T E : Type 0} {o p : SinkView} {w x bytes text : List ℕ} {result : Result T E} → Puts o p w x bytes result → bytes ≡ text → Puts o p w x text result
+puts_as {o = o} {p} {w} {x} {result = result} puts is = subst (λ (all : List ℕ). Puts o p w x all result) is puts
+
 -- where a write failed, the bytes that were to come next are not sent
 pub puts_broken : {T U E F : Type 0} {error : E} {o p : SinkView} {w x y first : List ℕ} {result : Result U F} (second : List ℕ) → Puts {T = T} o p w x first (Err error) → IsErr result → Puts o p w y (first ++ second) result
 puts_broken {result = Ok value} second one is_err = absurd (cc)

@@ -13,6 +13,7 @@ pub mod SourceInMemory
 pub mod SinkInMemory
 pub mod StdEnds
 pub mod LinkInMemory
+pub mod Pairing
 pub mod Counting
 pub mod Moments
 pub mod Pieces

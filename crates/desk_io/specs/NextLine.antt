@@ -19,7 +19,8 @@ pub record IsFirstLine (max : ℕ) (bytes text : List ℕ) : Type 0 where
 
 -- a line is the first one, and is taken; the end comes where no byte is left; a line is too long by its size; a fault takes nothing
 abbrev pub GivesLine : ℕ → Option (List ℕ) → Option (List ℕ) → LineGot → List ℕ → Type 0
-GivesLine max before after GotLine text = (after ≡ option_map after_first_line before) × IfSome before (λ bytes. IsFirstLine max bytes text)
+GivesLine max before after GotLine text =
+    (after ≡ option_map after_first_line before) × IfSome before (λ bytes. IsFirstLine max bytes text)
 GivesLine max before after End text = (after ≡ before) × IfSome before (λ bytes. bytes ≡ [])
 GivesLine max before after TooLong text = (after ≡ before) × IfSome before (λ bytes. max < (first_line bytes).size)
 GivesLine max before after ReadFault text = after ≡ before

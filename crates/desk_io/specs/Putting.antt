@@ -13,7 +13,8 @@ abbrev pub BreaksOff : SinkView → SinkView → List ℕ → Type 0
 BreaksOff sink sink_now bytes = (sent : List ℕ) × Appends sink sink_now sent × IsProperPrefix sent bytes
 
 -- the bytes were put behind those that waited
-pub record Puts {T E : Type 0} (sink sink_now : SinkView) (waiting waiting_now bytes : List ℕ) (result : Result T E) : Type 0 where
+pub record Puts {T E : Type 0} (sink sink_now : SinkView) (waiting waiting_now bytes : List ℕ) (result : Result T E)
+    : Type 0 where
   pub put : OnOk result (SendsFront sink sink_now (waiting ++ bytes) waiting_now)
   pub broken : OnErr result (BreaksOff sink sink_now (waiting ++ bytes))
   pub cause : OnErr result (Rose sink.faults sink_now.faults)
@@ -27,6 +28,7 @@ pub record Sends {T E : Type 0} (sink sink_now : SinkView) (bytes : List ℕ) (r
   pub faults : sink.faults ≤ sink_now.faults
 
 -- all that waited was sent, and nothing waits
-pub record Flushes {T E : Type 0} (sink sink_now : SinkView) (waiting waiting_now : List ℕ) (result : Result T E) : Type 0 where
+pub record Flushes {T E : Type 0} (sink sink_now : SinkView) (waiting waiting_now : List ℕ) (result : Result T E)
+    : Type 0 where
   pub sends : Sends sink sink_now waiting result
   pub empty : OnOk result (waiting_now ≡ [])

@@ -1,5 +1,5 @@
 -- A sink in memory as contracts see it, and what its writes answer.
-use Rattle.std.specs.Prelude.{ℕ, ◌-◌, ◌^◌, ◌==◌, if◌then◌else◌, List, ◌++◌, length, take, min, Some}
+use Rattle.std.specs.Prelude.{ℕ, ◌-◌, ◌^◌, ◌==◌, if◌then◌else◌, List, [], ◌++◌, length, take, min, Some}
 use Rattle.desk_io.specs.Faults.{next_count}
 use Rattle.desk_io.specs.SinkView.{SinkView}
 use Rattle.desk_io.specs.SourceInMemory.{is_failing}
@@ -21,7 +21,8 @@ bytes_taken sink = min (length sink.written) (2 ^ 64 - 1)
 
 -- it tells what was written and how many bytes it took
 abbrev pub view_of_sink : SinkValue → SinkView
-view_of_sink sink = record { written = Some sink.written; taken = Some (bytes_taken sink); faults = sink.faults }
+view_of_sink sink =
+    record { written = Some sink.written; taken = Some (bytes_taken sink); faults = sink.faults; lenders = [] }
 
 -- what the next write answers to some bytes: it also fails where the room is full
 abbrev pub write_answer : SinkValue → ℕ → Put
@@ -32,5 +33,6 @@ write_answer sink given =
 
 -- the sink after a write of these bytes with this answer
 abbrev pub after_write : SinkValue → List ℕ → Put → SinkValue
-after_write sink bytes (Took n) = record sink { written = sink.written ++ take n bytes; writes = next_count sink.writes }
+after_write sink bytes (Took n) =
+    record sink { written = sink.written ++ take n bytes; writes = next_count sink.writes }
 after_write sink bytes Failed = record sink { writes = next_count sink.writes; faults = next_count sink.faults }

@@ -1,5 +1,5 @@
 -- A source in memory as contracts see it, and what its reads answer.
-use Rattle.std.specs.Prelude.{ℕ, Bool, ◌==◌, if◌then◌else◌, List, length, drop, min, Some}
+use Rattle.std.specs.Prelude.{ℕ, Bool, ◌==◌, if◌then◌else◌, List, [], length, drop, min, Some}
 use Rattle.std.specs.List.{list_any}
 use Rattle.desk_io.specs.Faults.{next_count}
 use Rattle.desk_io.specs.SourceView.{SourceView}
@@ -16,7 +16,7 @@ pub record SourceValue : Type 0 where
 
 -- it tells what it has left
 abbrev pub view_of_source : SourceValue → SourceView
-view_of_source source = record { left = Some source.left; faults = source.faults }
+view_of_source source = record { left = Some source.left; faults = source.faults; lenders = [] }
 
 -- the call of this number is one of those that fail
 abbrev pub is_failing : List ℕ → ℕ → Bool

@@ -1,7 +1,7 @@
 //! A sink that keeps no byte and counts them all.
 
 ghost use Rattle.std.specs.Prelude.{◌≡◌, ◌+◌, ◌<◌, length};
-ghost use Rattle.desk_io.specs.Counting.{capped};
+ghost use Rattle.desk_io.specs.Counting.{capped, view_of_count};
 
 use crate::{Put, Sink};
 use std::marker::Model;
@@ -30,7 +30,8 @@ impl CountSink {
 
     /// How many bytes it took.
     pub fn count(&self) -> u64
-        ensures { result ≡ self.now }
+        ensures count { result ≡ self.now }
+        ensures taken { (view_of_count self.now).taken ≡ Some result }
     {
         self.count
     }

@@ -1,4 +1,4 @@
-//! The outside world as the desk sees it: bytes that come, bytes that go, and lines of bytes.
+//! The outside world as the desk sees it: bytes that come, lines of bytes, bytes that go, and the time.
 //! A fault is answered only where a count of faults rose, and what is written is a beginning of what was to be.
 //! It stands on nothing of the project.
 //! What the bytes mean is left to the crates above.
@@ -35,7 +35,7 @@ pub use mem_link::MemLink;
 pub use mem_sink::MemSink;
 pub use mem_source::MemSource;
 pub use numbered_lines::{LineFault, NextLine, NumberedLines};
-pub use out_buf::{OutBuf, WriteFault};
+pub use out_buf::{OutBuf, WAITING_BYTES_MAX, WriteFault, limits_are_these};
 pub use pair::Pair;
 pub use piece::Piece;
 pub use sink::{Put, Sink};

@@ -52,7 +52,8 @@ impl Model for LineReader {
     ghost view = { λ r. record { max = r.max; held = r.window.held; line = r.window.line; is_ended = r.is_ended } };
 
     // no line feed stands among the bytes that were searched
-    ghost invariant = { λ r. (r.window.size ≡ r.max + BLOCK) × (r.searched ≤ position_or_len is_line_feed r.window.held) };
+    ghost invariant = { λ r. (r.window.size ≡ r.max + BLOCK)
+        × (r.searched ≤ position_or_len is_line_feed r.window.held) };
 }
 
 impl LineReader {
@@ -77,7 +78,8 @@ impl LineReader {
     /// `End` comes exactly where no byte is left, and `TooLong` exactly where more than `max` bytes stand before the line feed or the end. Only a line is taken from what is ahead, so that the call may be made again after a fault, which comes only where no whole line is held.
     pub fn next<S: Source>(&mut self, source: &mut S) -> LineGot
         ensures max { self.new.max ≡ self.old.max }
-        ensures lines { GivesLine self.old.max (ahead self.old (S.source source.old).left) (ahead self.new (S.source source.new).left) result self.new.line }
+        ensures lines { GivesLine self.old.max (ahead self.old (S.source source.old).left)
+            (ahead self.new (S.source source.new).left) result self.new.line }
         ensures fits { LineFits self.old.max result self.new.line }
         ensures ended { EndsLine (ahead self.old (S.source source.old).left) result self.new }
         ensures faults { (S.source source.old).faults ≤ (S.source source.new).faults }

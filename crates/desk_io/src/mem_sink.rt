@@ -27,7 +27,14 @@ impl Model for MemSink {
 
     ghost Value = { SinkValue };
 
-    ghost view = { λ s. record { written = s.bytes.items; room = s.room; writes = s.writes; cut = s.cut; fails = s.fails.items; faults = s.faults } };
+    ghost view = { λ s. record {
+      written = s.bytes.items;
+      room = s.room;
+      writes = s.writes;
+      cut = s.cut;
+      fails = s.fails.items;
+      faults = s.faults;
+    } };
 
     ghost invariant = { λ s. (vec_len s.bytes ≤ s.room) × (s.room ≤ vec_capacity s.bytes) × (1 ≤ s.cut) };
 }
@@ -36,7 +43,8 @@ impl MemSink {
     /// A sink with room for `room` bytes, whose memory is taken here. A write takes at most `cut` bytes, at least 1; the writes numbered in `fails`, from 1, fail.
     pub fn new(alloc: Global, room: u64, cut: u64, fails: Vec<u64>) -> Result<MemSink, NoMemory>
         requires { 1 ≤ cut }
-        ensures { IfOk result (λ sink. sink ≡ record { written = []; room = room; writes = 0; cut = cut; fails = fails.items; faults = 0 }) }
+        ensures { IfOk result (λ sink. sink ≡
+            record { written = []; room = room; writes = 0; cut = cut; fails = fails.items; faults = 0 }) }
     {
         Ok(MemSink {
             bytes: Vec::with_capacity(alloc, room as usize)?,

@@ -26,7 +26,13 @@ impl Model for MemSource {
 
     ghost Value = { SourceValue };
 
-    ghost view = { λ s. record { left = drop s.taken s.bytes.items; reads = s.reads; cut = s.cut; fails = s.fails.items; faults = s.faults } };
+    ghost view = { λ s. record {
+      left = drop s.taken s.bytes.items;
+      reads = s.reads;
+      cut = s.cut;
+      fails = s.fails.items;
+      faults = s.faults;
+    } };
 
     ghost invariant = { λ s. (s.taken ≤ vec_len s.bytes) × (1 ≤ s.cut) };
 }

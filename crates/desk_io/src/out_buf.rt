@@ -10,8 +10,8 @@ use std::alloc::Global;
 use std::marker::Model;
 use thiserror::Error;
 
-// How many bytes may wait.
-const ROOM: usize = 16_384;
+/// The most bytes that wait in a buffer.
+pub const WAITING_BYTES_MAX: usize = 16_384;
 
 /// A write to the sink failed.
 #[derive(Clone, Copy, Debug, PartialEq, Eq, Error)]
@@ -28,13 +28,13 @@ pub struct OutBuf {
 
 impl Model for OutBuf {
     ghost use Rattle.std.specs.Prelude.{List, ℕ, ◌≤◌, vec_len, vec_capacity};
-    ghost use Rattle.desk_io.specs.declared.out_buf.TheConstants.{ROOM};
+    ghost use Rattle.desk_io.specs.declared.out_buf.TheConstants.{WAITING_BYTES_MAX};
 
     ghost Value = { List ℕ };
 
     ghost view = { λ b. b.waiting.items };
 
-    ghost invariant = { λ b. (vec_len b.waiting ≤ ROOM) × (ROOM ≤ vec_capacity b.waiting) };
+    ghost invariant = { λ b. (vec_len b.waiting ≤ WAITING_BYTES_MAX) × (WAITING_BYTES_MAX ≤ vec_capacity b.waiting) };
 }
 
 impl OutBuf {
@@ -43,7 +43,7 @@ impl OutBuf {
         ensures { IfOk result (λ out. out ≡ []) }
     {
         Ok(OutBuf {
-            waiting: Vec::with_capacity(alloc, ROOM)?,
+            waiting: Vec::with_capacity(alloc, WAITING_BYTES_MAX)?,
         })
     }
 
@@ -54,12 +54,12 @@ impl OutBuf {
         ensures puts { Puts (T.sink sink.old) (T.sink sink.new) self.old self.new bytes.now result }
         ensures source_side { T.source_side sink.new ≡ T.source_side sink.old }
     {
-        if bytes.len() <= ROOM - self.waiting.len() {
+        if bytes.len() <= WAITING_BYTES_MAX - self.waiting.len() {
             self.hold(bytes);
             return Ok(());
         }
         self.flush(sink)?;
-        if bytes.len() <= ROOM {
+        if bytes.len() <= WAITING_BYTES_MAX {
             self.hold(bytes);
             return Ok(());
         }
@@ -119,7 +119,7 @@ impl OutBuf {
 
     // Puts bytes for which there is room behind those that wait.
     fn hold(&mut self, bytes: &[u8])
-        requires { length self.old + length bytes.now ≤ ROOM }
+        requires { length self.old + length bytes.now ≤ WAITING_BYTES_MAX }
         ensures { self.new ≡ self.old ++ bytes.now }
     {
         match self.waiting.extend_from_slice(bytes) {
@@ -127,6 +127,14 @@ impl OutBuf {
             Err(_) => unreachable!(),
         }
     }
+}
+
+/// A law, with nothing to run: at most 16,384 bytes wait in a buffer.
+pub fn limits_are_these(out: &OutBuf)
+    ensures number { WAITING_BYTES_MAX ≡ 16384 }
+    ensures waiting { length out.now ≤ WAITING_BYTES_MAX }
+{
+    let _ = &out.waiting;
 }
 
 // Writes all of the bytes to the sink.

@@ -5,6 +5,9 @@ ghost use Rattle.std.specs.Prelude.{◌≡◌, ◌<◌, ◌≤◌, length};
 use crate::{Got, Link, Put, Sink, Source};
 
 /// A link over a source and a sink that stand apart: it reads from the one and writes to the other.
+///
+/// Both its sides show the two borrows, so that a caller knows what became of the ends that it lent.
+#[derive(Drop)]
 pub struct Pair<'a, S: Source, T: Sink> {
     pub source: &'a mut S,
     pub sink: &'a mut T,
@@ -23,9 +26,11 @@ impl<'a, S: Source, T: Sink> Pair<'a, S, T> {
 }
 
 impl<S: Source, T: Sink> Source for Pair<'_, S, T> {
-    ghost source = { λ p. S.source p.source.now };
+    ghost use Rattle.desk_io.specs.Pairing.{lenders_of};
 
-    ghost sink_side = { λ p. T.sink p.sink.now };
+    ghost source = { λ p. record (S.source p.source.now) { lenders = lenders_of p } };
+
+    ghost sink_side = { λ p. record (T.sink p.sink.now) { lenders = lenders_of p } };
 
     /// Reads from the source alone.
     fn read(&mut self, room: &mut [u8]) -> Got {
@@ -34,9 +39,11 @@ impl<S: Source, T: Sink> Source for Pair<'_, S, T> {
 }
 
 impl<S: Source, T: Sink> Sink for Pair<'_, S, T> {
-    ghost sink = { λ p. T.sink p.sink.now };
+    ghost use Rattle.desk_io.specs.Pairing.{lenders_of};
 
-    ghost source_side = { λ p. S.source p.source.now };
+    ghost sink = { λ p. record (T.sink p.sink.now) { lenders = lenders_of p } };
+
+    ghost source_side = { λ p. record (S.source p.source.now) { lenders = lenders_of p } };
 
     ghost taken_fits = { λ p. T.taken_fits p.sink.now };
 

@@ -26,11 +26,11 @@ impl<R: Read> StdSource<R> {
 }
 
 impl<R: Read> Source for StdSource<R> {
-    ghost use Rattle.std.specs.Prelude.{None};
+    ghost use Rattle.std.specs.Prelude.{None, []};
     ghost use Rattle.desk_io.specs.SinkView.{no_sink};
     ghost use Rattle.desk_io.specs.StdEnds.{read_failures};
 
-    ghost source = { λ s. record { left = None; faults = read_failures s } };
+    ghost source = { λ s. record { left = None; faults = read_failures s; lenders = [] } };
 
     ghost sink_side = { λ _. no_sink };
 
@@ -67,11 +67,11 @@ impl<W: Write> StdSink<W> {
 }
 
 impl<W: Write> Sink for StdSink<W> {
-    ghost use Rattle.std.specs.Prelude.{None};
+    ghost use Rattle.std.specs.Prelude.{None, []};
     ghost use Rattle.desk_io.specs.SourceView.{no_source};
     ghost use Rattle.desk_io.specs.StdEnds.{write_failures};
 
-    ghost sink = { λ s. record { written = None; taken = None; faults = write_failures s } };
+    ghost sink = { λ s. record { written = None; taken = None; faults = write_failures s; lenders = [] } };
 
     ghost source_side = { λ _. no_source };
 

@@ -24,9 +24,15 @@ impl Model for Window {
 
     ghost Value = { WindowValue };
 
-    ghost view = { λ w. record { line = drop w.line_start (take w.line_end w.bytes.items); held = drop w.start (take w.end w.bytes.items); behind = vec_len w.bytes - w.end; size = vec_len w.bytes } };
+    ghost view = { λ w. record {
+      line = drop w.line_start (take w.line_end w.bytes.items);
+      held = drop w.start (take w.end w.bytes.items);
+      behind = vec_len w.bytes - w.end;
+      size = vec_len w.bytes;
+    } };
 
-    ghost invariant = { λ w. (w.line_start ≤ w.line_end) × (w.line_end ≤ vec_len w.bytes) × (w.start ≤ w.end) × (w.end ≤ vec_len w.bytes) };
+    ghost invariant = { λ w. (w.line_start ≤ w.line_end) × (w.line_end ≤ vec_len w.bytes)
+        × (w.start ≤ w.end) × (w.end ≤ vec_len w.bytes) };
 }
 
 impl Window {

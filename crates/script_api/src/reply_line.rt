@@ -1,29 +1,38 @@
 //! The lines of answers.
 
-ghost use Rattle.std.specs.Prelude.{◌≡◌, ◌++◌, OnOk, codes, flat_map, string_bytes};
-ghost use Rattle.script_api.specs.ReplyLine.{answer_line, answer_text, cause_name as name_of_cause, detail_text, fault_text as text_of_fault, name_text, page_text, refusal_text, reply_text, spot_text};
+ghost use Rattle.std.specs.Prelude.{◌≡◌, ◌++◌, codes, flat_map};
+ghost use Rattle.desk_io.specs.Putting.{Puts};
+ghost use Rattle.script_api.specs.ReplyLine.{answer_line, answer_text, cause_name as name_of_cause, detail_text, fault_text as text_of_fault, page_text, refusal_text, reply_text, spot_text};
 
+use desk_io::{OutBuf, Piece, Sink, WriteFault};
 use desk_types::{Detail, Fault, Refusal, Reply, Spot};
 use match_types::PatternCause;
-use query_words::NoMemory;
-use std::fmt::Write;
 
-/// Appends the line of an answer of the desk, with its line feed. `NoMemory` is want of memory for
-/// the text, of which a beginning may have been appended.
-pub fn write_answer_line(text: &mut String, answer: &Result<Reply, Fault>) -> Result<(), NoMemory>
-    ensures line { OnOk result (string_bytes text.new ≡ string_bytes text.old ++ answer_line answer.now) }
+/// Puts the line of an answer of the desk, with its line feed. It takes no memory.
+pub fn put_answer_line<T: Sink>(
+    out: &mut OutBuf,
+    output: &mut T,
+    answer: &Result<Reply, Fault>,
+) -> Result<(), WriteFault>
+    ensures puts { Puts (T.sink output.old) (T.sink output.new) out.old out.new (answer_line answer.now) result }
+    ensures source_side { T.source_side output.new ≡ T.source_side output.old }
 {
-    write_answer_text(text, answer)?;
-    text.push_str("\n")
+    put_answer_text(out, output, answer)?;
+    out.put_str(output, "\n")
 }
 
-/// Appends the text of an answer.
-fn write_answer_text(text: &mut String, answer: &Result<Reply, Fault>) -> Result<(), NoMemory>
-    ensures { OnOk result (string_bytes text.new ≡ string_bytes text.old ++ answer_text answer.now) }
+/// Puts the text of an answer.
+fn put_answer_text<T: Sink>(
+    out: &mut OutBuf,
+    output: &mut T,
+    answer: &Result<Reply, Fault>,
+) -> Result<(), WriteFault>
+    ensures puts { Puts (T.sink output.old) (T.sink output.new) out.old out.new (answer_text answer.now) result }
+    ensures source_side { T.source_side output.new ≡ T.source_side output.old }
 {
     match answer {
-        Ok(reply) => write_reply(text, reply),
-        Err(fault) => text.push_str(fault_text(fault)),
+        Ok(reply) => put_reply(out, output, reply),
+        Err(fault) => out.put_str(output, fault_text(fault)),
     }
 }
 
@@ -38,96 +47,96 @@ fn fault_text(fault: &Fault) -> &'static str
     }
 }
 
-/// Appends the text of a reply.
-fn write_reply(text: &mut String, reply: &Reply) -> Result<(), NoMemory>
-    ensures { OnOk result (string_bytes text.new ≡ string_bytes text.old ++ reply_text reply.now) }
+/// Puts the text of a reply.
+fn put_reply<T: Sink>(out: &mut OutBuf, output: &mut T, reply: &Reply) -> Result<(), WriteFault>
+    ensures puts { Puts (T.sink output.old) (T.sink output.new) out.old out.new (reply_text reply.now) result }
+    ensures source_side { T.source_side output.new ≡ T.source_side output.old }
 {
     match reply {
-        Reply::Made(number) => write!(text, "made {number}"),
-        Reply::Done => text.push_str("done"),
-        Reply::Page(spots) => write_page(text, spots.as_slice()),
-        Reply::Went(link) => write_went(text, link.as_str()),
-        Reply::Refused(refusal) => write_refusal(text, refusal),
+        Reply::Made(number) => out.put_all(output, &[Piece::Text("made "), Piece::Number(*number)]),
+        Reply::Done => out.put_str(output, "done"),
+        Reply::Page(spots) => put_page(out, output, spots.as_slice()),
+        Reply::Went(link) => out.put_all(
+            output,
+            &[Piece::Text("went "), Piece::Text(link.as_str())],
+        ),
+        Reply::Refused(refusal) => put_refusal(out, output, refusal),
     }
 }
 
-/// Appends where a click goes.
-fn write_went(text: &mut String, link: &str) -> Result<(), NoMemory>
-    ensures { OnOk result (string_bytes text.new ≡ string_bytes text.old ++ (codes "went " ++ link.now)) }
+/// Puts the text of a page.
+fn put_page<T: Sink>(out: &mut OutBuf, output: &mut T, spots: &[Spot]) -> Result<(), WriteFault>
+    ensures puts { Puts (T.sink output.old) (T.sink output.new) out.old out.new (page_text spots.now) result }
+    ensures source_side { T.source_side output.new ≡ T.source_side output.old }
 {
-    text.push_str("went ")?;
-    text.push_str(link)
+    out.put_all(
+        output,
+        &[Piece::Text("page "), Piece::Number(spots.len() as u64)],
+    )?;
+    put_spots(out, output, spots)
 }
 
-/// Appends the text of a page.
-#[tactic(auto, unfolding(crate::specs::ReplyLine::page_text))]
-fn write_page(text: &mut String, spots: &[Spot]) -> Result<(), NoMemory>
-    ensures { OnOk result (string_bytes text.new ≡ string_bytes text.old ++ page_text spots.now) }
-{
-    let count = spots.len();
-    write!(text, "page {count}")?;
-    write_spots(text, spots)
-}
-
-/// Appends the places of a page.
-fn write_spots(text: &mut String, spots: &[Spot]) -> Result<(), NoMemory>
-    ensures { OnOk result (string_bytes text.new ≡ string_bytes text.old ++ flat_map spot_text spots.now) }
+/// Puts the places of a page.
+fn put_spots<T: Sink>(out: &mut OutBuf, output: &mut T, spots: &[Spot]) -> Result<(), WriteFault>
+    ensures puts { Puts (T.sink output.old) (T.sink output.new) out.old out.new (flat_map spot_text spots.now) result }
+    ensures source_side { T.source_side output.new ≡ T.source_side output.old }
 {
     for spot in spots {
-        write_spot(text, spot)?;
+        put_spot(out, output, spot)?;
     }
     Ok(())
 }
 
-/// Appends a place of a page.
-fn write_spot(text: &mut String, spot: &Spot) -> Result<(), NoMemory>
-    ensures { OnOk result (string_bytes text.new ≡ string_bytes text.old ++ spot_text spot.now) }
+/// Puts a place of a page.
+fn put_spot<T: Sink>(out: &mut OutBuf, output: &mut T, spot: &Spot) -> Result<(), WriteFault>
+    ensures puts { Puts (T.sink output.old) (T.sink output.new) out.old out.new (spot_text spot.now) result }
+    ensures source_side { T.source_side output.new ≡ T.source_side output.old }
 {
-    let place = spot.place;
-    let price = spot.price;
-    let placement = spot.placement;
-    write!(text, " | {place} ")?;
-    write_name(text, spot)?;
-    write!(text, " {price} #{placement}")
+    let pieces = [
+        Piece::Text(" | "),
+        Piece::Number(spot.place),
+        Piece::Text(" "),
+        Piece::Number(spot.account),
+        Piece::Text("."),
+        Piece::Number(spot.campaign),
+        Piece::Text("."),
+        Piece::Number(spot.line),
+        Piece::Text(" "),
+        Piece::Number(spot.price),
+        Piece::Text(" #"),
+        Piece::Number(spot.placement),
+    ];
+    out.put_all(output, &pieces)
 }
 
-/// Appends the name of the line that a place shows.
-fn write_name(text: &mut String, spot: &Spot) -> Result<(), NoMemory>
-    ensures { OnOk result (string_bytes text.new ≡ string_bytes text.old ++ name_text spot.now) }
+/// Puts the text of a refusal.
+fn put_refusal<T: Sink>(
+    out: &mut OutBuf,
+    output: &mut T,
+    refusal: &Refusal,
+) -> Result<(), WriteFault>
+    ensures puts { Puts (T.sink output.old) (T.sink output.new) out.old out.new (refusal_text refusal.now) result }
+    ensures source_side { T.source_side output.new ≡ T.source_side output.old }
 {
-    let account = spot.account;
-    let campaign = spot.campaign;
-    let line = spot.line;
-    write!(text, "{account}.{campaign}.{line}")
+    out.put_all(
+        output,
+        &[Piece::Text("refused "), Piece::Text(refusal.name())],
+    )?;
+    put_detail(out, output, refusal.detail())
 }
 
-/// Appends the text of a refusal.
-fn write_refusal(text: &mut String, refusal: &Refusal) -> Result<(), NoMemory>
-    ensures { OnOk result (string_bytes text.new ≡ string_bytes text.old ++ refusal_text refusal.now) }
+/// Puts a space and a detail, where there is one.
+fn put_detail<T: Sink>(out: &mut OutBuf, output: &mut T, detail: Detail) -> Result<(), WriteFault>
+    ensures puts { Puts (T.sink output.old) (T.sink output.new) out.old out.new (detail_text detail) result }
+    ensures source_side { T.source_side output.new ≡ T.source_side output.old }
 {
-    text.push_str("refused ")?;
-    text.push_str(refusal.name())?;
-    write_detail(text, refusal.detail())
-}
-
-/// Appends a space and a detail, where there is one.
-fn write_detail(text: &mut String, detail: Detail) -> Result<(), NoMemory>
-    ensures { OnOk result (string_bytes text.new ≡ string_bytes text.old ++ detail_text detail) }
-{
-    match detail {
-        Detail::Nothing => Ok(()),
-        Detail::Field(field) => write_word(text, field.name()),
-        Detail::Cause(cause) => write_word(text, cause_name(cause)),
-        Detail::Number(number) => write!(text, " {number}"),
-    }
-}
-
-/// Appends a space and a word.
-fn write_word(text: &mut String, word: &str) -> Result<(), NoMemory>
-    ensures { OnOk result (string_bytes text.new ≡ string_bytes text.old ++ (codes " " ++ word.now)) }
-{
-    text.push_str(" ")?;
-    text.push_str(word)
+    let piece = match detail {
+        Detail::Nothing => return Ok(()),
+        Detail::Field(field) => Piece::Text(field.name()),
+        Detail::Cause(cause) => Piece::Text(cause_name(cause)),
+        Detail::Number(number) => Piece::Number(number),
+    };
+    out.put_all(output, &[Piece::Text(" "), piece])
 }
 
 /// The name of the cause for which a text is no pattern.

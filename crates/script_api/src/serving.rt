@@ -9,10 +9,10 @@ ghost use Rattle.desk_io.specs.SourceView.{SourceView};
 ghost use Rattle.desk_io.specs.declared.limits.TheConstants.{INPUT_LINES_MAX};
 ghost use Rattle.script_api.specs.ScriptValue.{end_of};
 
-use crate::answers::AnswerLines;
 use crate::ending::ScriptEnd;
 use crate::line::{ScriptLine, read_line};
-use desk_io::{LineFault, NextLine, NumberedLines, Sink, Source, WriteFault};
+use crate::reply_line::put_answer_line;
+use desk_io::{LineFault, NextLine, NumberedLines, OutBuf, Sink, Source, WriteFault};
 use desk_types::Service;
 use query_words::NoMemory;
 use std::alloc::Global;
@@ -22,19 +22,22 @@ use std::alloc::Global;
 pub struct LineServing {
     pub alloc: Global,
     pub lines: NumberedLines,
-    pub answers: AnswerLines,
+    pub answers: OutBuf,
 }
 
 impl LineServing {
     /// Before the first line.
     pub fn new(alloc: Global) -> Result<LineServing, NoMemory>
-        ensures lines { IfOk result (λ serving. serving.lines ≡ record { count = 0; held = []; text = []; is_ended = true }) }
+        ensures lines {
+            IfOk result
+                (λ serving. serving.lines ≡ record { count = 0; held = []; text = []; is_ended = true })
+        }
         ensures waiting { IfOk result (λ serving. serving.answers ≡ []) }
     {
         Ok(LineServing {
             alloc,
             lines: NumberedLines::new(alloc)?,
-            answers: AnswerLines::new(alloc)?,
+            answers: OutBuf::new(alloc)?,
         })
     }
 
@@ -126,7 +129,7 @@ impl LineServing {
         match read_line(self.alloc, self.lines.text()) {
             Ok(ScriptLine::Timed { moment, call }) => {
                 let answer = service.call(moment, call);
-                self.answers.put(output, &answer)?;
+                put_answer_line(&mut self.answers, output, &answer)?;
                 Ok(self.end_of_last())
             }
             Ok(ScriptLine::NotBuilt) => Ok(Some(ScriptEnd::NotBuilt(self.lines.number()))),

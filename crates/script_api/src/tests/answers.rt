@@ -1,6 +1,7 @@
 //! The lines of answers.
 
-use crate::write_answer_line;
+use crate::put_answer_line;
+use desk_io::{MemSink, OutBuf};
 use desk_types::{Fault, Field, LinkText, Refusal, Reply, Spot};
 use match_types::PatternCause;
 use query_words::{List, NoMemory, Text};
@@ -8,11 +9,19 @@ use std::alloc::Global;
 use std::process::Abort;
 use std::test::Fail;
 
-/// The line of an answer.
-fn line_of(alloc: Global, answer: Result<Reply, Fault>) -> Result<String, NoMemory> {
-    let mut text = String::new(alloc);
-    write_answer_line(&mut text, &answer)?;
-    Ok(text)
+/// Checks the line of an answer.
+fn check_line(
+    rt: &(impl Abort + AllocGlobal),
+    answer: Result<Reply, Fault>,
+    line: &str,
+) -> Result<(), Fail> {
+    let alloc = rt.alloc();
+    let mut sink = MemSink::new(alloc, 1_000, 1_000, Vec::new(alloc))?;
+    let mut out = OutBuf::new(alloc)?;
+    assert!(rt; put_answer_line(&mut out, &mut sink, &answer).is_ok(), "{line}");
+    assert!(rt; out.flush(&mut sink).is_ok(), "{line}");
+    assert_eq!(rt; sink.bytes(), line.as_bytes(), "{line}");
+    Ok(())
 }
 
 /// A place of a page.
@@ -37,15 +46,10 @@ fn spot_of(
 
 #[test]
 fn a_reply_has_its_line(rt: HostRuntime) -> Result<(), Fail> {
-    let alloc = rt.alloc();
     let link = LinkText::read("http://s.example/").expect(&rt, "it is a link");
-    assert_eq!(rt; line_of(alloc, Ok(Reply::Made(12)))?.as_str(), "made 12\n");
-    assert_eq!(rt; line_of(alloc, Ok(Reply::Done))?.as_str(), "done\n");
-    assert_eq!(rt;
-        line_of(alloc, Ok(Reply::Went(link)))?.as_str(),
-        "went http://s.example/\n"
-    );
-    Ok(())
+    check_line(&rt, Ok(Reply::Made(12)), "made 12\n")?;
+    check_line(&rt, Ok(Reply::Done), "done\n")?;
+    check_line(&rt, Ok(Reply::Went(link)), "went http://s.example/\n")
 }
 
 #[test]
@@ -54,53 +58,48 @@ fn a_page_has_its_line(rt: HostRuntime) -> Result<(), Fail> {
     let mut spots = Vec::new(alloc);
     spots.push(spot_of(&rt, alloc, 1, 11, 51)?)?;
     spots.push(spot_of(&rt, alloc, 2, 12, 5)?)?;
-    let page = Ok(Reply::Page(List::from_vec(spots)));
-    assert_eq!(rt;
-        line_of(alloc, page)?.as_str(),
-        "page 2 | 1 1.2.3 51 #11 | 2 1.2.3 5 #12\n"
-    );
-    Ok(())
+    let line = "page 2 | 1 1.2.3 51 #11 | 2 1.2.3 5 #12\n";
+    check_line(&rt, Ok(Reply::Page(List::from_vec(spots))), line)
 }
+
+const KEEPER: Fault = Fault::Keeper {
+    before: 0,
+    after: 1,
+};
+
+const FULL: Fault = Fault::JournalFull {
+    entries: 3,
+    bytes: 4,
+};
+
+const FAULTS: [(Fault, &str); 3] = [
+    (KEEPER, "fault keeper\n"),
+    (FULL, "fault journal\n"),
+    (Fault::NoMemory, "fault memory\n"),
+];
 
 #[test]
 fn a_fault_has_its_line(rt: HostRuntime) -> Result<(), Fail> {
-    let keeper = Fault::Keeper {
-        before: 0,
-        after: 1,
-    };
-    let full = Fault::JournalFull {
-        entries: 3,
-        bytes: 4,
-    };
-    let cases = [
-        (keeper, "fault keeper\n"),
-        (full, "fault journal\n"),
-        (Fault::NoMemory, "fault memory\n"),
-    ];
-    for (fault, line) in cases {
-        assert_eq!(rt; line_of(rt.alloc(), Err(fault))?.as_str(), line);
+    for (fault, line) in FAULTS {
+        check_line(&rt, Err(fault), line)?;
     }
     Ok(())
 }
 
+const UNCLOSED: Refusal = Refusal::BadPattern(PatternCause::Unclosed);
+
+const REFUSALS: [(Refusal, &str); 5] = [
+    (Refusal::BadKey, "refused BadKey\n"),
+    (Refusal::BadField(Field::Bid), "refused BadField Bid\n"),
+    (UNCLOSED, "refused BadPattern Unclosed\n"),
+    (Refusal::LineThere(7), "refused LineThere 7\n"),
+    (Refusal::QueryTooLong(513), "refused QueryTooLong 513\n"),
+];
+
 #[test]
 fn a_refusal_has_its_line(rt: HostRuntime) -> Result<(), Fail> {
-    let cases = [
-        (Refusal::BadKey, "refused BadKey\n"),
-        (Refusal::NoAccount, "refused NoAccount\n"),
-        (Refusal::BadField(Field::Bid), "refused BadField Bid\n"),
-        (
-            Refusal::BadPattern(PatternCause::Unclosed),
-            "refused BadPattern Unclosed\n",
-        ),
-        (Refusal::LineThere(7), "refused LineThere 7\n"),
-        (Refusal::QueryTooLong(513), "refused QueryTooLong 513\n"),
-    ];
-    for (refusal, line) in cases {
-        assert_eq!(rt;
-            line_of(rt.alloc(), Ok(Reply::Refused(refusal)))?.as_str(),
-            line
-        );
+    for (refusal, line) in REFUSALS {
+        check_line(&rt, Ok(Reply::Refused(refusal)), line)?;
     }
     Ok(())
 }

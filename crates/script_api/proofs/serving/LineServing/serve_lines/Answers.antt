@@ -19,12 +19,12 @@ returns-in_err-flush-clause-done g c =
     let p = err_from_is_err_and c.from_residual-in_err-flush.result c.from_residual-in_err-flush.ensures.1 in
     let ends = rw c.in-Some.is at (c.in_ok-end.ensures.turn start c.loop-end.invariant.so_far) in
     rw p.1
-    (ends-unflushed start (g.V.Service.service c.serve_line.new.service) (g.S.Source.source c.serve_line.new.input) (g.T.Sink.sink c.serve_line.new.output) (g.T.Sink.sink c.flush.new.output)
+    (ends-unflushed start (g.V.Service.service c.serve_line.new.service) (g.S.Source.source c.serve_line.new.input) (g.T.Sink.sink c.serve_line.new.output) (g.T.Sink.sink c.flush.new.sink)
     c.serve_line.new.self.lines c.serve_line.new.self.answers c.flush.new.self c.in-Some.end ends c.in_err-flush.field-0.0 c.in_err-flush.ensures.flushes)
 
 pub returns-in-Some-clause-done : goal.returns-in-Some-clause-done
 returns-in-Some-clause-done g c =
     let start = script_at (g.V.Service.service c.args.service.now) (g.S.Source.source c.args.input.now) (g.T.Sink.sink c.args.output.now) in
     let ends = rw c.in-Some.is at (c.in_ok-end.ensures.turn start c.loop-end.invariant.so_far) in
-    ends-flushed start (g.V.Service.service c.serve_line.new.service) (g.S.Source.source c.serve_line.new.input) (g.T.Sink.sink c.serve_line.new.output) (g.T.Sink.sink c.flush.new.output)
+    ends-flushed start (g.V.Service.service c.serve_line.new.service) (g.S.Source.source c.serve_line.new.input) (g.T.Sink.sink c.serve_line.new.output) (g.T.Sink.sink c.flush.new.sink)
     c.serve_line.new.self.lines c.serve_line.new.self.answers c.flush.new.self c.in-Some.end ends c.in_ok-flush.ensures.flushes

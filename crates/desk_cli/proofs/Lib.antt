@@ -1,9 +1,9 @@
 pub mod PartLemmas
 pub mod TextLemmas
 pub mod FormLemmas
-pub mod Run
 pub mod Turns
 pub mod Meeting
 pub mod OnPage
+pub mod Sending
 pub mod Answering
 pub mod Throughout

@@ -8,8 +8,7 @@ use Rattle.desk_cli.specs.HeadingValue.{HeadingValue}
 use Rattle.desk_cli.specs.declared.fault.ReadEnd.{ReadEnd}
 use Rattle.desk_cli.specs.declared.form.AdLine.{AdLine}
 use Rattle.desk_cli.specs.MeetsHeading.{MeetsHeading, AllMeet}
-use Rattle.desk_cli.specs.Running.{kept_ads}
-use Rattle.desk_cli.specs.AuctionLines.{is_eligible_under}
+use Rattle.desk_cli.specs.Reading.{kept_ads, is_eligible_under}
 
 none-meet : (heading : HeadingValue) (ads : List AdValue) → ads ≡ [] → All (MeetsHeading heading) ads
 none-meet heading [] none = λ k d in_list. absurd (omega arith)

@@ -1,10 +1,10 @@
 -- The entrants on the page, one after another.
-use Rattle.std.proofs.Common.{Bor, ◌≡◌, ℕ, zero, suc, ◌+◌, ◌≤◌, ◌<◌, List, [], ◌∷◌, ◌++◌, length, take, get_or, refl, sym, ◌∙◌, ap, subst, append-nil, arith}
+use Rattle.std.proofs.Common.{Bor, ◌≡◌, ℕ, zero, suc, ◌+◌, ◌≤◌, ◌<◌, List, [], ◌∷◌, ◌++◌, length, take, drop, get_or, refl, sym, ◌∙◌, ap, subst, append-nil, append_assoc, arith}
 use Rattle.std.specs.Prelude.{Option, Some, None, IfSome, IsTrue, slice_get, flat_map, codes, Contains, All}
 use Rattle.std.specs.Option.{option_map, option_copied}
 use Rattle.std.proofs.lemmas.Option.{slice_get-map, slice_get-get_or, get_or_from_slice_get}
 use Rattle.std.proofs.lemmas.Grind.{flat_map-append}
-use Rattle.std.proofs.lemmas.List.{take_more, length-map, take_all}
+use Rattle.std.proofs.lemmas.List.{take_more, length-map, take_all, take-append-drop}
 use Rattle.std.proofs.lemmas.List.Elements.{All-contains}
 use Rattle.desk_types.specs.AdValue.{AdValue}
 use Rattle.desk_types.specs.Laws.{IsNextBelow}
@@ -16,7 +16,7 @@ use Rattle.desk_types.proofs.Pages.{Has-slice_get, page-first_places, next_below
 use Rattle.rank_core.specs.Ranked.{IsRankedAmong, ranked}
 use Rattle.rank_core.specs.declared.page.Ranked.{Ranked}
 use Rattle.desk_cli.specs.HeadingValue.{HeadingValue}
-use Rattle.desk_cli.specs.AuctionValue.{AuctionValue}
+use Rattle.desk_cli.specs.Reading.{AuctionValue}
 use Rattle.desk_cli.specs.MeetsHeading.{MeetsHeading}
 use Rattle.desk_cli.specs.Printout.{entrant_line, entrant_text, auction_page_text}
 
@@ -60,11 +60,11 @@ unfolding ranked
 length-ranked entered n = length-map (page entered n) (λ (x : AdValue). let y : Ranked = record { ad = x; next = next_below entered x } in y)
 
 -- an entrant is one of the ads, which meet the heading
-pub item-meets : (heading : HeadingValue) (ads ads' : List AdValue) (items : List Ranked) (k : ℕ) (r : Ranked) → ads' ≡ ads → All (MeetsHeading heading) ads →
-    All (IsRankedAmong ads') items → k < length items → r ≡ get_or items k r → MeetsHeading heading r.ad
-item-meets heading ads ads' items k r same meet among in_list is =
-    let ranked_among : IsRankedAmong ads' r = subst (IsRankedAmong ads') (sym is) (among k r in_list) in
-    All-contains (MeetsHeading heading) ads r.ad meet (subst (λ (xs : List AdValue). Contains xs r.ad) same ranked_among.among_ads)
+pub item-meets : (heading : HeadingValue) (ads : List AdValue) (items : List Ranked) (k : ℕ) (r : Ranked) → All (MeetsHeading heading) ads → All (IsRankedAmong ads) items →
+    k < length items → r ≡ get_or items k r → MeetsHeading heading r.ad
+item-meets heading ads items k r meet among in_list is =
+    let ranked_among : IsRankedAmong ads r = subst (IsRankedAmong ads) (sym is) (among k r in_list) in
+    All-contains (MeetsHeading heading) ads r.ad meet ranked_among.among_ads
 
 -- the lines of the first k entrants on the page
 unfoldable pub written : AuctionValue → ℕ → List ℕ
@@ -98,13 +98,11 @@ written-more auction k cents r on_page is =
     ∙ ap (λ rest. flat_map (entrant_text auction) (take k ads) ++ rest) (append-nil (entrant_text auction r.ad) ∙ rw (on_page.place, ← is) refl)))
 
 -- the item that a loop reads is on the page
-pub item-on_page : (ads ads' : List AdValue) (n n' k : ℕ) (items : List Ranked) (r : Ranked) → ads' ≡ ads → n' ≡ n →
-    items ≡ ranked (entrants ads') n' → AreOfDifferentAccounts (entrants ads') → k < length items → r ≡ get_or items k r → IsOnPage (entrants ads) n k r
-item-on_page ads ads' n n' k items r same_ads same_n all apart in_list is =
+pub item-on_page : (entered : List AdValue) (n k : ℕ) (items : List Ranked) (r : Ranked) → items ≡ ranked entered n → AreOfDifferentAccounts entered → k < length items → r ≡ get_or items k r →
+    IsOnPage entered n k r
+item-on_page entered n k items r all apart in_list is =
     let there : slice_get items k ≡ Some r = slice_get-get_or items k r in_list ∙ ap Some (sym is) in
-    let there' : slice_get (ranked (entrants ads') n') k ≡ Some r = rw all at there in
-    subst (λ (m : ℕ). IsOnPage (entrants ads) m k r) same_n
-    (subst (λ (xs : List AdValue). IsOnPage (entrants xs) n' k r) same_ads (ranked-at (entrants ads') n' k r apart there'))
+    ranked-at entered n k r apart (rw all at there)
 
 -- what holds of a copy holds behind the reference
 pub copied : (P : AdValue → Type 0) (o : Option (Bor AdValue)) (x : Option AdValue) → option_copied o ≡ x → IfSome x P → IfSome o (λ b. P b.now)
@@ -112,10 +110,29 @@ copied P None x same h = tt
 copied P (Some b) None same h = cc
 copied P (Some b) (Some a) same h = let e : a ≡ b.now = cc in subst P e h
 
--- all entrants on the page are written where the items are at their end
-pub written-end : (auction : AuctionValue) (ads : List AdValue) (n k : ℕ) (items : List Ranked) → ads ≡ auction.ads → n ≡ auction.heading.places →
-    items ≡ ranked (entrants ads) n → length items ≤ k → written auction k ++ codes "end\n" ≡ auction_page_text auction
-written-end auction ads n k items same_ads same_n all ends =
-    let long : length items ≡ length (page (entrants ads) n) = ap length all ∙ length-ranked (entrants ads) n in
-    let long' : length items ≡ length (page (entrants auction.ads) auction.heading.places) = rw (same_ads, same_n) at long in
+-- the line of the next entrant, at the price that is found for it
+pub written-next : (auction : AuctionValue) (items : List Ranked) (k cents reserve floor : ℕ) (r : Ranked) (below : Option AdValue) → items ≡ ranked (entrants auction.ads) auction.heading.places →
+    AreOfDifferentAccounts (entrants auction.ads) → k < length items → r ≡ get_or items k r → reserve ≡ auction.heading.reserve → floor ≡ auction.heading.floor → below ≡ r.next →
+    ((entered : List AdValue) → AreOfDifferentAccounts entered → Contains entered r.ad → next_below entered r.ad ≡ below → cents ≡ price reserve floor entered r.ad) →
+    written auction k ++ entrant_line (k + 1) r.ad cents ≡ written auction (k + 1)
+written-next auction items k cents reserve floor r below all apart in_list is same_reserve same_floor same_next found =
+    let on_page = item-on_page (entrants auction.ads) auction.heading.places k items r all apart in_list is in
+    written-more auction k cents r on_page (rw (same_reserve, same_floor) at (found (entrants auction.ads) apart on_page.entrant (on_page.next ∙ sym same_next)))
+
+-- all entrants on the page are written where the items are at their end, and a beginning of the page before that
+pub written-end : (auction : AuctionValue) (k : ℕ) (items : List Ranked) → items ≡ ranked (entrants auction.ads) auction.heading.places → length items ≤ k →
+    written auction k ++ codes "end\n" ≡ auction_page_text auction
+written-end auction k items all ends =
+    let long : length items ≡ length (page (entrants auction.ads) auction.heading.places) = ap length all ∙ length-ranked (entrants auction.ads) auction.heading.places in
     written-all auction k (omega arith)
+
+pub written-first : (auction : AuctionValue) (k : ℕ) → (rest : List ℕ) × (written auction k ++ rest ≡ auction_page_text auction)
+unfolding written auction_page_text
+written-first auction k =
+    let ads : List AdValue = page (entrants auction.ads) auction.heading.places in
+    let text : AdValue → List ℕ = entrant_text auction in
+    (
+      flat_map text (drop k ads) ++ codes "end\n",
+      sym (append_assoc (flat_map text (take k ads)) (flat_map text (drop k ads)) (codes "end\n"))
+      ∙ ap (λ bytes. bytes ++ codes "end\n") (sym (flat_map-append text (take k ads) (drop k ads)) ∙ ap (flat_map text) (take-append-drop k ads)),
+    )

@@ -1,26 +1,43 @@
--- How a call of the program ends.
-use Rattle.std.specs.Prelude.{◌≡◌, ℕ, ◌⊎◌, List, [], ◌∷◌, codes, IfSome, Result, Ok, Err}
+-- How the reading of an auction ends.
+use Rattle.std.specs.Prelude.{◌≡◌, ℕ, Bool, true, false, List, Option, Some, IfSome, Result, Ok, Err}
 use Rattle.desk_io.specs.Faults.{Rose}
-use Rattle.desk_io.specs.Lines.{lines}
-use Rattle.desk_io.specs.SinkView.{SinkView}
+use Rattle.desk_io.specs.NumberedLines.{NumberedText, AreCutOff, ReadSoFar}
+use Rattle.desk_io.specs.NumberedValue.{NumberedValue}
 use Rattle.desk_io.specs.SourceView.{SourceView}
-use Rattle.desk_io.specs.Writing.{Appends, AppendsNothing, IsProperPrefix}
-use Rattle.desk_cli.specs.declared.fault.LineFault.{LineFault}
+use Rattle.desk_io.specs.declared.numbered_lines.LineFault.{LineFault}
 use Rattle.desk_cli.specs.declared.fault.ReadEnd.{ReadEnd}
 use Rattle.desk_cli.specs.declared.fault.ReadEnd.TheVariants.{Fault, ReadFault, NoMemory}
 use Rattle.desk_cli.specs.declared.auction.Auction.{Auction}
-use Rattle.desk_cli.specs.AuctionValue.{AuctionValue, spelled_by}
-use Rattle.desk_cli.specs.Printout.{Printout, printout_of}
+use Rattle.desk_cli.specs.Reading.{AuctionValue, SoFar, nothing_yet, take_texts, auction_at, auction_in}
 
 abbrev pub auction_value : Auction → AuctionValue
 auction_value a = record { heading = a.heading; ads = a.ads.items }
 
--- reading ended with what the bytes spell, or by a fault of reading, or for want of memory
-abbrev pub ReadsAs : Result AuctionValue LineFault → Result Auction ReadEnd → Type 0
-ReadsAs spelled (Ok found) = spelled ≡ Ok (auction_value found)
-ReadsAs spelled (Err (Fault fault)) = spelled ≡ Err fault
-ReadsAs spelled (Err ReadFault) = Unit {0}
-ReadsAs spelled (Err NoMemory) = Unit {0}
+-- a failed read cut the bytes off: what was read of them up to its last line feed has no fault
+pub record IsCutOff (bytes : List ℕ) (left : Option (List ℕ)) : Type 0 where
+  pub texts : List NumberedText
+  pub so_far : SoFar
+  pub cut_off : AreCutOff bytes left texts
+  pub no_fault : take_texts nothing_yet texts ≡ Ok so_far
+
+-- what is spelled was found, or its fault; or memory was wanted
+abbrev pub Gives : {A B : Type 0} → (A → B) → Result B LineFault → Result A ReadEnd → Type 0
+Gives value spelled (Ok found) = spelled ≡ Ok (value found)
+Gives value spelled (Err (Fault fault)) = spelled ≡ Err fault
+Gives value spelled (Err ReadFault) = ⊥
+Gives value spelled (Err NoMemory) = Unit {0}
+
+-- it is this fault; or memory was wanted
+abbrev pub IsFault : Option LineFault → ReadEnd → Type 0
+IsFault found (Fault fault) = found ≡ Some fault
+IsFault found ReadFault = ⊥
+IsFault found NoMemory = Unit {0}
+
+-- the reading of these bytes ended so: by their first fault, by a failed read, or for want of memory
+abbrev pub EndsBy : Option (List ℕ) → Option (List ℕ) → ReadEnd → Type 0
+EndsBy whole left (Fault fault) = IfSome whole (λ bytes. auction_in bytes ≡ Err fault)
+EndsBy whole left ReadFault = IfSome whole (λ bytes. IsCutOff bytes left)
+EndsBy whole left NoMemory = Unit {0}
 
 -- a fault of reading comes only where the count rose
 abbrev pub ReadEndCause : ℕ → ℕ → ReadEnd → Type 0
@@ -28,58 +45,19 @@ ReadEndCause before now (Fault fault) = Unit {0}
 ReadEndCause before now ReadFault = Rose before now
 ReadEndCause before now NoMemory = Unit {0}
 
--- the words are this one word
-abbrev pub AreWord : List ℕ → List (List ℕ) → Type 0
-AreWord word words = words ≡ word ∷ []
+-- the texts that were read so far of the bytes have no fault, and spell this
+pub record IsReading (whole : Option (List ℕ)) (lines : NumberedValue) (left : Option (List ℕ)) (so_far : SoFar)
+    : Type 0 where
+  pub texts : List NumberedText
+  pub read : ReadSoFar whole texts lines left
+  pub taken : take_texts nothing_yet texts ≡ Ok so_far
 
-abbrev pub refused_printout : Printout
-refused_printout = record { text = codes "words refused\n"; status = 2 }
+-- the bytes spell what is kept, with their end behind so many lines
+abbrev pub IsAllRead : Option (List ℕ) → ℕ → SoFar → Type 0
+IsAllRead whole count so_far = IfSome whole (λ bytes. auction_in bytes ≡ auction_at (Ok count) so_far)
 
-abbrev pub read_fault_printout : Printout
-read_fault_printout = record { text = codes "read fault\n"; status = 3 }
-
--- a read failed
-pub record IsReadFault (source source_now : SourceView) (printout : Printout) : Type 0 where
-  pub rose : Rose source.faults source_now.faults
-  pub is : printout ≡ read_fault_printout
-
--- the printout is that of what the input's bytes spell, where the input tells them
-pub record IsJudged (source : SourceView) (printout : Printout) : Type 0 where
-  pub spelled : Result AuctionValue LineFault
-  pub is : printout ≡ printout_of spelled
-  pub bytes_spell : IfSome source.left (λ bytes. spelled_by (lines bytes) ≡ spelled)
-
--- the printout of an auction, by its input
-abbrev pub IsAuctionPrintout : SourceView → SourceView → Printout → Type 0
-IsAuctionPrintout source source_now printout = IsReadFault source source_now printout ⊎ IsJudged source printout
-
--- all of the printout is written, and its status answered
-pub record IsAllWritten (sink sink_now : SinkView) (printout : Printout) (status : ℕ) : Type 0 where
-  pub answered : status ≡ printout.status
-  pub appended : Appends sink sink_now printout.text
-
--- a write failed: a beginning of the printout is written, and not all of it
-pub record IsBrokenOff (sink sink_now : SinkView) (printout : Printout) (status : ℕ) : Type 0 where
-  pub answered : status ≡ 4
-  pub rose : Rose sink.faults sink_now.faults
-  pub sent : List ℕ
-  pub beginning : IsProperPrefix sent printout.text
-  pub appended : Appends sink sink_now sent
-
--- want of memory: nothing is written
-pub record IsNoMemory (sink sink_now : SinkView) (status : ℕ) : Type 0 where
-  pub answered : status ≡ 5
-  pub nothing : AppendsNothing sink sink_now
-
--- how much of a printout is written, and the status that is answered
-abbrev pub IsWritten : SinkView → SinkView → Printout → ℕ → Type 0
-IsWritten sink sink_now printout status =
-    (IsAllWritten sink sink_now printout status
-    ⊎ IsBrokenOff sink sink_now printout status)
-    ⊎ IsNoMemory sink sink_now status
-
--- what waited is written and the status answered; or a write failed and a beginning of it is written, and not all
-abbrev pub IsSaid : SinkView → SinkView → List ℕ → ℕ → ℕ → Type 0
-IsSaid sink sink_now waiting status result =
-    IsAllWritten sink sink_now (record { text = waiting; status = status }) result
-    ⊎ IsBrokenOff sink sink_now (record { text = waiting; status = status }) result
+-- a turn took a line and goes on, or saw the end behind the last line, or ended the reading
+abbrev pub Goes : Option (List ℕ) → NumberedValue → Option (List ℕ) → SoFar → Result Bool ReadEnd → Type 0
+Goes whole lines left so_far (Ok true) = IsReading whole lines left so_far
+Goes whole lines left so_far (Ok false) = IsAllRead whole lines.count so_far
+Goes whole lines left so_far (Err end) = EndsBy whole left end

@@ -15,14 +15,16 @@ has_outer_space line = slice_index line 0 == 32 || slice_index line (length line
 
 -- the heading of three numbers, where each is spelled
 abbrev pub heading_from : Option ℕ → Option ℕ → Option ℕ → Option HeadingValue
-heading_from (Some reserve) (Some floor) (Some places) = Some (record { reserve = reserve; floor = floor; places = places })
+heading_from (Some reserve) (Some floor) (Some places) =
+    Some (record { reserve = reserve; floor = floor; places = places })
 heading_from _ _ _ = None
 
 -- the heading that the fields `auction RESERVE FLOOR PLACES` spell
 abbrev pub heading_of_fields : List (List ℕ) → Option HeadingValue
 heading_of_fields (word ∷ reserve ∷ floor ∷ places ∷ []) =
     if bytes_eq word (codes "auction")
-    then heading_from (number_within BID_MIN BID_MAX reserve) (number_within 0 FLOOR_MAX floor) (number_within 1 PLACES_MAX places)
+    then heading_from (number_within BID_MIN BID_MAX reserve) (number_within 0 FLOOR_MAX floor)
+        (number_within 1 PLACES_MAX places)
     else None
 heading_of_fields _ = None
 
@@ -32,7 +34,8 @@ heading_in line = if has_outer_space line then None else heading_of_fields (fiel
 
 -- the name of three numbers, where each is spelled
 abbrev pub name_from : Option ℕ → Option ℕ → Option ℕ → Option LineName
-name_from (Some account) (Some campaign) (Some line) = Some (record { account = account; campaign = campaign; line = line })
+name_from (Some account) (Some campaign) (Some line) =
+    Some (record { account = account; campaign = campaign; line = line })
 name_from _ _ _ = None
 
 -- the name whose parts between dots these are: `ACCOUNT.CAMPAIGN.LINE`
@@ -62,7 +65,8 @@ ad_from _ _ _ _ = None
 abbrev pub ad_of_fields : List (List ℕ) → Option AdLine
 ad_of_fields (word ∷ name ∷ bid ∷ quality ∷ free ∷ []) =
     if bytes_eq word (codes "ad")
-    then ad_from (name_in name) (number_within BID_MIN BID_MAX bid) (number_within QUALITY_MIN QUALITY_MAX quality) (number_within 0 FREE_MAX free)
+    then ad_from (name_in name) (number_within BID_MIN BID_MAX bid) (number_within QUALITY_MIN QUALITY_MAX quality)
+        (number_within 0 FREE_MAX free)
     else None
 ad_of_fields _ = None
 

@@ -1,10 +1,9 @@
 pub mod HeadingValue
 pub mod Form
 pub mod MeetsHeading
-pub mod AuctionLines
-pub mod AuctionValue
-pub mod Running
-pub mod Printout
+pub mod Reading
 pub mod Ending
+pub mod Printout
+pub mod Saying
 pub mod ScriptCall
 pub mod TopCall

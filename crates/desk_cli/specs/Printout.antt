@@ -1,12 +1,12 @@
--- What `auction` writes, and its status, for all bytes of an input.
+-- What the program writes, and its status.
 use Rattle.std.specs.Prelude.{ℕ, List, ◌++◌, flat_map, codes, decimal, Result, Ok, Err}
 use Rattle.desk_types.specs.AdValue.{AdValue}
 use Rattle.desk_types.specs.Page.{entrants, place, page}
 use Rattle.desk_types.specs.Price.{price}
-use Rattle.desk_io.specs.Lines.{lines}
-use Rattle.desk_cli.specs.declared.fault.LineFault.{LineFault}
-use Rattle.desk_cli.specs.declared.fault.LineFault.TheVariants.{BadLine, LongLine, TooManyLines}
-use Rattle.desk_cli.specs.AuctionValue.{AuctionValue, spelled_by}
+use Rattle.desk_io.specs.declared.numbered_lines.LineFault.{LineFault}
+use Rattle.desk_io.specs.declared.numbered_lines.LineFault.TheVariants.{BadLine, LongLine, TooManyLines}
+use Rattle.desk_cli.specs.declared.status.TheConstants.{ENDED, WORDS_REFUSED, READ_FAULT, BAD_LINE, PAST_LIMIT}
+use Rattle.desk_cli.specs.Reading.{AuctionValue}
 
 -- what is written, and the status
 pub record Printout : Type 0 where
@@ -20,17 +20,15 @@ line_fault_text (LongLine number) = codes "long line " ++ (decimal number ++ cod
 line_fault_text TooManyLines = codes "too many lines\n"
 
 unfoldable pub fault_status : LineFault → ℕ
-fault_status (BadLine number) = 8
-fault_status (LongLine number) = 9
-fault_status TooManyLines = 9
-
--- the name of an ad's line
-abbrev pub ad_name_text : AdValue → List ℕ
-ad_name_text ad = decimal ad.account ++ (codes "." ++ (decimal ad.campaign ++ (codes "." ++ decimal ad.line)))
+fault_status (BadLine number) = BAD_LINE
+fault_status (LongLine number) = PAST_LIMIT
+fault_status TooManyLines = PAST_LIMIT
 
 -- the line of an entrant: its place, its name and its price in cents
 abbrev pub entrant_line : ℕ → AdValue → ℕ → List ℕ
-entrant_line place ad cents = decimal place ++ (codes " " ++ (ad_name_text ad ++ (codes " " ++ (decimal cents ++ codes "\n"))))
+entrant_line place ad cents =
+    decimal place ++ (codes " " ++ (decimal ad.account ++ (codes "." ++ (decimal ad.campaign ++ (codes "."
+    ++ (decimal ad.line ++ (codes " " ++ (decimal cents ++ codes "\n"))))))))
 
 unfoldable pub entrant_text : AuctionValue → AdValue → List ℕ
 entrant_text auction ad =
@@ -39,15 +37,27 @@ entrant_text auction ad =
 
 -- a line for each entrant on the page, in order of place, and the line `end`
 unfoldable pub auction_page_text : AuctionValue → List ℕ
-auction_page_text auction = flat_map (entrant_text auction) (page (entrants auction.ads) auction.heading.places) ++ codes "end\n"
+auction_page_text auction =
+    flat_map (entrant_text auction) (page (entrants auction.ads) auction.heading.places) ++ codes "end\n"
+
+-- what is said of an auction, of a fault in the lines, of a failed read, of words that no command has, and of a line of a
+-- script whose command has no call yet
+abbrev pub page_printout : AuctionValue → Printout
+page_printout auction = record { text = auction_page_text auction; status = ENDED }
 
 abbrev pub fault_printout : LineFault → Printout
 fault_printout fault = record { text = line_fault_text fault; status = fault_status fault }
 
-abbrev pub printout_of : Result AuctionValue LineFault → Printout
-printout_of (Ok auction) = record { text = auction_page_text auction; status = 0 }
-printout_of (Err fault) = fault_printout fault
+abbrev pub read_fault_printout : Printout
+read_fault_printout = record { text = codes "read fault\n"; status = READ_FAULT }
 
--- the printout of an input
-unfoldable pub auction : List ℕ → Printout
-auction bytes = printout_of (spelled_by (lines bytes))
+abbrev pub refused_printout : Printout
+refused_printout = record { text = codes "words refused\n"; status = WORDS_REFUSED }
+
+abbrev pub not_built_printout : ℕ → Printout
+not_built_printout number = record { text = codes "not built " ++ (decimal number ++ codes "\n"); status = BAD_LINE }
+
+-- the printout of an auction or of its first fault
+abbrev pub printout_of : Result AuctionValue LineFault → Printout
+printout_of (Ok auction) = page_printout auction
+printout_of (Err fault) = fault_printout fault

@@ -1,53 +1,55 @@
 -- How a call of the program with the word `script` ends.
-use Rattle.std.specs.Prelude.{◌≡◌, ℕ, ◌≤◌, List, [], ◌∷◌, ◌++◌, Option, codes, decimal}
+use Rattle.std.specs.Prelude.{◌≡◌, ℕ, ◌≤◌, List, [], ◌∷◌, ◌++◌, Option}
 use Rattle.desk_types.specs.declared.entry.Entry.{Entry}
 use Rattle.desk_types.specs.declared.call.Call.TheVariants.{Search}
 use Rattle.desk_types.specs.declared.reply.Reply.TheVariants.{Page}
 use Rattle.desk_types.specs.declared.reply.Spot.{Spot}
 use Rattle.desk_types.specs.LedgerLaws.{IsPageAnswered}
 use Rattle.desk_types.specs.Run.{run}
+use Rattle.desk_types.specs.Serving.{with_seen}
 use Rattle.desk_types.specs.Sound.{StaysWithinBudgets}
 use Rattle.desk_types.specs.State.{State}
 use Rattle.desk_types.specs.Step.{at_moment, step}
-use Rattle.desk_core.specs.DeskValue.{DeskValue, opening}
+use Rattle.desk_core.specs.DeskValue.{DeskValue, opening, service_of}
 use Rattle.desk_io.specs.SinkView.{SinkView}
 use Rattle.desk_io.specs.SourceView.{SourceView}
-use Rattle.desk_io.specs.Writing.{AppendsNothing}
+use Rattle.desk_io.specs.declared.numbered_lines.LineFault.TheVariants as line
 use Rattle.script_api.specs.declared.ending.ScriptEnd.{ScriptEnd}
 use Rattle.script_api.specs.declared.ending.ScriptEnd.TheVariants.{Ended, BadLine, LongLine, TooManyLines, NotBuilt, ReadFault, WriteFault, NoMemory}
-use Rattle.script_api.specs.ScriptRun.{EndCause, IsRun}
-use Rattle.desk_cli.specs.declared.fault.LineFault.TheVariants as line
-use Rattle.desk_cli.specs.Ending.{IsWritten, read_fault_printout}
-use Rattle.desk_cli.specs.Printout.{Printout, fault_printout}
+use Rattle.script_api.specs.ScriptRun.{EndCause, IsRun, kind_of, script_at}
+use Rattle.desk_cli.specs.declared.status.TheConstants.{ENDED, WRITE_FAULT, NO_MEMORY}
+use Rattle.desk_cli.specs.Printout.{fault_printout, not_built_printout, read_fault_printout}
+use Rattle.desk_cli.specs.Saying.{IsSilent, IsWritten}
 
--- the last line of a script that names a command of which no call can be made yet, and the status
-abbrev pub not_built_printout : ℕ → Printout
-not_built_printout number = record { text = codes "not built " ++ (decimal number ++ codes "\n"); status = 8 }
+-- the input and the output of a call, before or after it
+pub record CallState : Type 0 where
+  pub source : SourceView
+  pub sink : SinkView
 
--- nothing more is written, and this status is answered
-pub record IsSilent (wanted : ℕ) (sink sink_now : SinkView) (status : ℕ) : Type 0 where
-  pub answered : status ≡ wanted
-  pub nothing : AppendsNothing sink sink_now
+abbrev pub call_at : SourceView → SinkView → CallState
+call_at source sink = record { source = source; sink = sink }
 
 -- what is written behind the answers of a script, by its end, and the status
 abbrev pub IsLastSaid : SinkView → SinkView → ScriptEnd → ℕ → Type 0
-IsLastSaid sink sink_now Ended status = IsSilent 0 sink sink_now status
-IsLastSaid sink sink_now (BadLine number) status = IsWritten sink sink_now (fault_printout (line.BadLine number)) status
-IsLastSaid sink sink_now (LongLine number) status = IsWritten sink sink_now (fault_printout (line.LongLine number)) status
+IsLastSaid sink sink_now Ended status = IsSilent ENDED sink sink_now status
+IsLastSaid sink sink_now (BadLine k) status = IsWritten sink sink_now (fault_printout (line.BadLine k)) status
+IsLastSaid sink sink_now (LongLine k) status = IsWritten sink sink_now (fault_printout (line.LongLine k)) status
 IsLastSaid sink sink_now TooManyLines status = IsWritten sink sink_now (fault_printout line.TooManyLines) status
-IsLastSaid sink sink_now (NotBuilt number) status = IsWritten sink sink_now (not_built_printout number) status
+IsLastSaid sink sink_now (NotBuilt k) status = IsWritten sink sink_now (not_built_printout k) status
 IsLastSaid sink sink_now ReadFault status = IsWritten sink sink_now read_fault_printout status
-IsLastSaid sink sink_now WriteFault status = IsSilent 4 sink sink_now status
-IsLastSaid sink sink_now NoMemory status = IsSilent 5 sink sink_now status
+IsLastSaid sink sink_now WriteFault status = IsSilent WRITE_FAULT sink sink_now status
+IsLastSaid sink sink_now NoMemory status = IsSilent NO_MEMORY sink sink_now status
 
--- the script that the input holds was run for the caller 1, from an empty journal to that of the desk, its answers were written, and then how it ended
-pub record IsScriptServed (source source_now : SourceView) (sink sink_now : SinkView) (desk : DeskValue) (status : ℕ) : Type 0 where
+-- the script that the input holds was run for the caller 1, from an empty journal to that of the desk, its answers were
+-- written, and then how it ended
+pub record IsScriptServed (before after : CallState) (desk : DeskValue) (status : ℕ) : Type 0 where
   pub end : ScriptEnd
   pub sink_then : SinkView
-  pub ran : IsRun 1 (opening desk) [] desk.log source source_now sink sink_then end
-  pub cause : EndCause source.faults source_now.faults sink.faults sink_then.faults end
-  pub no_fewer_faults : (sink.faults ≤ sink_then.faults) × (sink_then.faults ≤ sink_now.faults)
-  pub said : IsLastSaid sink_then sink_now end status
+  pub ran : IsRun (script_at (with_seen (service_of 1 desk) []) before.source before.sink)
+      (script_at (service_of 1 desk) after.source sink_then) end
+  pub cause : EndCause (kind_of end) before.source after.source before.sink sink_then
+  pub no_fewer_faults : (before.sink.faults ≤ sink_then.faults) × (sink_then.faults ≤ after.sink.faults)
+  pub said : IsLastSaid sink_then after.sink end status
 
 -- a search that is answered with a page gives it by the generalised second price
 abbrev pub IsPricedPage : State → Entry → Type 0

@@ -1,21 +1,16 @@
 //! The reading of an auction.
 
-ghost use Rattle.std.specs.Bool.{OnFalse};
-ghost use Rattle.std.specs.Option.{option_map};
-ghost use Rattle.std.specs.Prelude.{◌≡◌, ◌≤◌, ◌+◌, [], All, Ok, Err, IfSome, IfOk, IfErr, OnOk};
-ghost use Rattle.desk_io.specs.Lines.{lines};
-ghost use Rattle.desk_io.specs.NextLine.{ahead};
-ghost use Rattle.desk_cli.specs.Ending.{ReadEndCause, ReadsAs};
-ghost use Rattle.desk_cli.specs.AuctionValue.{spelled_by};
+ghost use Rattle.std.specs.Prelude.{◌≡◌, ℕ, ◌<◌, ◌≤◌, true, false, [], List, Option, All, Ok, IfSome, IfOk, IfErr, OnOk};
+ghost use Rattle.desk_io.specs.declared.limits.TheConstants.{INPUT_LINES_MAX};
+ghost use Rattle.desk_cli.specs.Ending.{auction_value, EndsBy, Goes, IsAllRead, IsReading, ReadEndCause};
 ghost use Rattle.desk_cli.specs.MeetsHeading.{MeetsHeading};
-ghost use Rattle.desk_cli.specs.Running.{EndStands, Spells, Turned, end_of, spelled_from};
+ghost use Rattle.desk_cli.specs.Reading.{auction_in, nothing_yet};
 
-use crate::fault::{LineFault, ReadEnd};
+use crate::fault::ReadEnd;
 use crate::heading::Heading;
 use crate::reading::AuctionReading;
-use desk_io::{LineGot, LineReader, Source};
+use desk_io::{NextLine, NumberedLines, Source};
 use desk_types::Ad;
-use script_api::limits::{INPUT_LINES_MAX, LINE_BYTES_MAX};
 use std::alloc::Global;
 
 /// An auction: its heading and its eligible ads, in the order of their lines.
@@ -27,83 +22,72 @@ pub struct Auction {
 
 /// Reads an auction to the end of the input or to the first line with a fault.
 pub fn read_auction<S: Source>(alloc: Global, input: &mut S) -> Result<Auction, ReadEnd>
-    ensures spelled { IfSome (S.source input.old).left (λ bytes. ReadsAs (spelled_by (lines bytes)) result) }
+    ensures spelled {
+        IfOk result (λ auction. IfSome (S.source input.old).left (λ bytes. auction_in bytes ≡ Ok (auction_value auction)))
+    }
+    ensures ended { IfErr result (EndsBy (S.source input.old).left (S.source input.new).left) }
     ensures meets { IfOk result (λ auction. All (MeetsHeading auction.heading) auction.ads.items) }
     ensures all_read { OnOk result (IfSome (S.source input.new).left (λ bytes. bytes ≡ [])) }
     ensures cause { IfErr result (ReadEndCause (S.source input.old).faults (S.source input.new).faults) }
     ensures faults { (S.source input.old).faults ≤ (S.source input.new).faults }
+    ensures sink_side { S.sink_side input.new ≡ S.sink_side input.old }
 {
-    let Ok(mut reader) = LineReader::new(alloc, LINE_BYTES_MAX) else {
+    let Ok(mut lines) = NumberedLines::new(alloc) else {
         return Err(ReadEnd::NoMemory);
     };
     let mut reading = AuctionReading::new(alloc);
-    match read_lines(&mut reader, &mut reading, input) {
-        Ok(number) => reading.end(number),
-        Err(end) => Err(end),
-    }
+    read_lines(&mut lines, &mut reading, input)?;
+    reading.end(lines.number())
 }
 
-/// Takes the lines of the input, and answers the number of the line in whose place the end stands.
+/// Takes the lines of the input up to its end.
 fn read_lines<S: Source>(
-    reader: &mut LineReader,
+    lines: &mut NumberedLines,
     reading: &mut AuctionReading,
     input: &mut S,
-) -> Result<u64, ReadEnd>
-    requires max { reader.old.max ≡ LINE_BYTES_MAX }
-    ensures spelled { IfSome (ahead reader.old (S.source input.old).left) (λ bytes. Spells (spelled_from reading.old 1 bytes) reading.new result) }
+) -> Result<(), ReadEnd>
+    requires lines { lines.old ≡ record { count = 0; held = []; text = []; is_ended = true } }
+    requires nothing { reading.old ≡ nothing_yet }
+    ensures all { OnOk result (IsAllRead (S.source input.old).left lines.new.count reading.new) }
+    ensures ended { IfErr result (EndsBy (S.source input.old).left (S.source input.new).left) }
+    ensures within { lines.new.count ≤ INPUT_LINES_MAX }
     ensures all_read { OnOk result (IfSome (S.source input.new).left (λ bytes. bytes ≡ [])) }
     ensures cause { IfErr result (ReadEndCause (S.source input.old).faults (S.source input.new).faults) }
     ensures faults { (S.source input.old).faults ≤ (S.source input.new).faults }
+    ensures sink_side { S.sink_side input.new ≡ S.sink_side input.old }
 {
-    for number in 1..INPUT_LINES_MAX + 1 {
-        if !take_line(reader, reading, input, number)? {
-            return Ok(number);
+    loop {
+        if !take_line(lines, reading, input)? {
+            return Ok(());
         }
     }
-    match take_end(reader, input) {
-        Ok(()) => Ok(INPUT_LINES_MAX + 1),
-        Err(end) => Err(end),
-    }
 }
 
-/// Takes the numbered line, or answers `false` where the end stands in its place.
+/// Takes the next line, and answers whether another may follow.
 fn take_line<S: Source>(
-    reader: &mut LineReader,
+    lines: &mut NumberedLines,
     reading: &mut AuctionReading,
     input: &mut S,
-    number: u64,
 ) -> Result<bool, ReadEnd>
-    requires number { (1 ≤ number) × (number ≤ INPUT_LINES_MAX) }
-    requires max { reader.old.max ≡ LINE_BYTES_MAX }
-    ensures max { reader.new.max ≡ LINE_BYTES_MAX }
-    ensures turned { Turned (option_map (spelled_from reading.old number) (ahead reader.old (S.source input.old).left)) (option_map (spelled_from reading.new (number + 1)) (ahead reader.new (S.source input.new).left)) (end_of reading.new.heading number reading.new.eligible) result }
-    ensures all_read { IfOk result (λ more. OnFalse more (IfSome (S.source input.new).left (λ bytes. bytes ≡ []))) }
-    ensures cause { IfErr result (ReadEndCause (S.source input.old).faults (S.source input.new).faults) }
-    ensures faults { (S.source input.old).faults ≤ (S.source input.new).faults }
-{
-    match reader.next(input) {
-        LineGot::Line => match reading.take(number, reader.line()) {
-            Ok(()) => Ok(true),
-            Err(end) => Err(end),
-        },
-        LineGot::End => Ok(false),
-        LineGot::TooLong => Err(ReadEnd::Fault(LineFault::LongLine(number))),
-        LineGot::ReadFault => Err(ReadEnd::ReadFault),
+    ensures goes {
+        (whole : Option (List ℕ)) → IsReading whole lines.old (S.source input.old).left reading.old
+        → Goes whole lines.new (S.source input.new).left reading.new result
     }
-}
-
-/// Sees that the end stands behind the last line that may be.
-fn take_end<S: Source>(reader: &mut LineReader, input: &mut S) -> Result<(), ReadEnd>
-    requires max { reader.old.max ≡ LINE_BYTES_MAX }
-    ensures ends { EndStands (ahead reader.old (S.source input.old).left) result }
-    ensures all_read { OnOk result (IfSome (S.source input.new).left (λ bytes. bytes ≡ [])) }
+    ensures counts { result ≡ Ok true → lines.old.count < lines.new.count }
+    ensures within { lines.new.count ≤ INPUT_LINES_MAX }
+    ensures all_read { result ≡ Ok false → IfSome (S.source input.new).left (λ bytes. bytes ≡ []) }
     ensures cause { IfErr result (ReadEndCause (S.source input.old).faults (S.source input.new).faults) }
     ensures faults { (S.source input.old).faults ≤ (S.source input.new).faults }
+    ensures sink_side { S.sink_side input.new ≡ S.sink_side input.old }
 {
-    match reader.next(input) {
-        LineGot::End => Ok(()),
-        LineGot::Line => Err(ReadEnd::Fault(LineFault::TooManyLines)),
-        LineGot::TooLong => Err(ReadEnd::Fault(LineFault::TooManyLines)),
-        LineGot::ReadFault => Err(ReadEnd::ReadFault),
+    match lines.next(input) {
+        NextLine::Text => {
+            reading.take(lines.number(), lines.text())?;
+            Ok(!lines.is_last())
+        }
+        NextLine::Skipped => Ok(!lines.is_last()),
+        NextLine::End => Ok(false),
+        NextLine::Fault(fault) => Err(ReadEnd::Fault(fault)),
+        NextLine::ReadFault => Err(ReadEnd::ReadFault),
     }
 }

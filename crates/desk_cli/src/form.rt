@@ -1,9 +1,7 @@
 //! The forms of an auction's lines.
 
-ghost use Rattle.std.specs.Prelude.{◌≡◌, IfSome};
-ghost use Rattle.desk_types.specs.AdValue.{IsBid, IsQuality};
-ghost use Rattle.desk_types.specs.SettingsValue.{IsFloor, IsPlaces, IsReserve};
-ghost use Rattle.desk_cli.specs.Form.{ad_from, ad_in, has_outer_space as has_space_outside, heading_from, heading_in, name_from, name_in};
+ghost use Rattle.std.specs.Prelude.{◌≡◌};
+ghost use Rattle.desk_cli.specs.Form.{ad_in, has_outer_space as has_space_outside, heading_in, name_in};
 
 use crate::heading::Heading;
 use crate::limits::{FREE_MAX, NUMBER_MAX};
@@ -71,23 +69,10 @@ pub fn read_heading(line: &[u8]) -> Option<Heading>
     if word != "auction" {
         return None;
     }
-    let reserve = number_in(reserve.as_bytes(), BID_MIN, BID_MAX);
-    let floor = number_in(floor.as_bytes(), 0, FLOOR_MAX);
-    let places = number_in(places.as_bytes(), 1, PLACES_MAX);
-    made_heading(reserve, floor, places)
-}
-
-/// The heading of three numbers, where each is spelled.
-fn made_heading(reserve: Option<u64>, floor: Option<u64>, places: Option<u64>) -> Option<Heading>
-    requires reserve { IfSome reserve IsReserve }
-    requires floor { IfSome floor IsFloor }
-    requires places { IfSome places IsPlaces }
-    ensures { result ≡ heading_from reserve floor places }
-{
-    match (reserve, floor, places) {
-        (Some(reserve), Some(floor), Some(places)) => Some(Heading::new(reserve, floor, places)),
-        _ => None,
-    }
+    let reserve = number_in(reserve.as_bytes(), BID_MIN, BID_MAX)?;
+    let floor = number_in(floor.as_bytes(), 0, FLOOR_MAX)?;
+    let places = number_in(places.as_bytes(), 1, PLACES_MAX)?;
+    Some(Heading::new(reserve, floor, places))
 }
 
 /// The name that a text spells: `ACCOUNT.CAMPAIGN.LINE`, or `None` where it is in another form.
@@ -96,24 +81,11 @@ fn read_name(text: &str) -> Option<LineName>
     ensures { result ≡ name_in text.now }
 {
     let (account, campaign, line) = three_parts(text)?;
-    let account = number_in(account.as_bytes(), 1, NUMBER_MAX);
-    let campaign = number_in(campaign.as_bytes(), 1, NUMBER_MAX);
-    let line = number_in(line.as_bytes(), 1, NUMBER_MAX);
-    made_name(account, campaign, line)
-}
-
-/// The name of three numbers, where each is spelled.
-fn made_name(account: Option<u64>, campaign: Option<u64>, line: Option<u64>) -> Option<LineName>
-    ensures { result ≡ name_from account campaign line }
-{
-    match (account, campaign, line) {
-        (Some(account), Some(campaign), Some(line)) => Some(LineName {
-            account,
-            campaign,
-            line,
-        }),
-        _ => None,
-    }
+    Some(LineName {
+        account: number_in(account.as_bytes(), 1, NUMBER_MAX)?,
+        campaign: number_in(campaign.as_bytes(), 1, NUMBER_MAX)?,
+        line: number_in(line.as_bytes(), 1, NUMBER_MAX)?,
+    })
 }
 
 /// The ad that a line spells: `ad ACCOUNT.CAMPAIGN.LINE BID QUALITY FREE`, or `None` where it is in another form.
@@ -131,29 +103,10 @@ pub fn read_ad(line: &[u8]) -> Option<AdLine>
     if word != "ad" {
         return None;
     }
-    let name = read_name(name);
-    let bid = number_in(bid.as_bytes(), BID_MIN, BID_MAX);
-    let quality = number_in(quality.as_bytes(), QUALITY_MIN, QUALITY_MAX);
-    let free = number_in(free.as_bytes(), 0, FREE_MAX);
-    made_ad(name, bid, quality, free)
-}
-
-/// The ad of a name and three numbers, where each is spelled; the bid and the quality are in range where they are.
-fn made_ad(
-    name: Option<LineName>,
-    bid: Option<u64>,
-    quality: Option<u64>,
-    free: Option<u64>,
-) -> Option<AdLine>
-    requires bid { IfSome bid IsBid }
-    requires quality { IfSome quality IsQuality }
-    ensures { result ≡ ad_from name bid quality free }
-{
-    match (name, bid, quality, free) {
-        (Some(name), Some(bid), Some(quality), Some(free)) => {
-            let ad = Ad::new(name.account, name.campaign, name.line, bid, quality)?;
-            Some(AdLine { ad, free })
-        }
-        _ => None,
-    }
+    let name = read_name(name)?;
+    let bid = number_in(bid.as_bytes(), BID_MIN, BID_MAX)?;
+    let quality = number_in(quality.as_bytes(), QUALITY_MIN, QUALITY_MAX)?;
+    let free = number_in(free.as_bytes(), 0, FREE_MAX)?;
+    let ad = Ad::new(name.account, name.campaign, name.line, bid, quality)?;
+    Some(AdLine { ad, free })
 }

@@ -5,7 +5,6 @@
 //! `main` makes the real input and output, and nothing else.
 #![tactic(auto)]
 
-mod answer;
 mod auction;
 mod fault;
 mod form;
@@ -14,7 +13,9 @@ mod limits;
 mod page;
 mod parts;
 mod reading;
+mod say;
 mod script;
+mod status;
 mod top;
 
 use desk_io::{StdSink, StdSource};
@@ -24,7 +25,7 @@ use std::{env, io};
 fn main(rt: HostRuntime) -> ExitCode {
     let words = match words_of(&rt) {
         Ok(words) => words,
-        Err(error) if error.kind() == io::ErrorKind::OutOfMemory => return ExitCode::from(5),
+        Err(error) if error.kind() == io::ErrorKind::OutOfMemory => return ExitCode::from(status::NO_MEMORY),
         Err(_) => Vec::new(rt.alloc()),
     };
     let mut input = StdSource::new(rt.stdin());

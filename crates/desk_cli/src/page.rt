@@ -1,50 +1,93 @@
-//! The text of a page.
+//! The page of an auction, written line by line.
 
-ghost use Rattle.std.specs.Prelude.{◌≡◌, ◌++◌, All, IfOk, OnOk, string_bytes};
+ghost use Rattle.std.specs.Prelude.{◌≡◌, ◌≤◌, [], All};
+ghost use Rattle.desk_types.specs.Page.{AreOfDifferentAccounts, entrants};
+ghost use Rattle.desk_io.specs.Putting.{Puts, Sends};
+ghost use Rattle.rank_core.specs.Ranked.{IsRankedAmong, ranked};
 ghost use Rattle.desk_cli.specs.Ending.{auction_value};
 ghost use Rattle.desk_cli.specs.MeetsHeading.{MeetsHeading};
-ghost use Rattle.desk_cli.specs.Printout.{entrant_line, ad_name_text, auction_page_text};
+ghost use Rattle.desk_cli.specs.Printout.{auction_page_text, entrant_line, page_printout};
+ghost use Rattle.desk_cli.specs.Saying.{IsWritten};
 
 use crate::auction::Auction;
+use crate::status::{ENDED, NO_MEMORY, WRITE_FAULT};
+use desk_io::{OutBuf, Piece, Sink, WriteFault};
 use desk_types::Ad;
 use gsp_price::price;
-use rank_core::page_of;
-use std::alloc::{AllocError as NoMemory, Global};
-use std::fmt::Write;
+use rank_core::{Ranked, page_of};
+use std::alloc::Global;
 
-/// A line for each entrant on the page, `PLACE ACCOUNT.CAMPAIGN.LINE PRICE`, and the line `end`.
-pub fn auction_page(alloc: Global, auction: &Auction) -> Result<String, NoMemory>
+/// Writes a line for each entrant on the page, `PLACE ACCOUNT.CAMPAIGN.LINE PRICE`, and the line `end`,
+/// and answers the status; 4 where a write failed, and 5 for want of memory, before anything is written.
+pub fn say_page<T: Sink>(alloc: Global, output: &mut T, auction: &Auction) -> u8
     requires { All (MeetsHeading auction.now.heading) auction.now.ads.items }
-    ensures { IfOk result (λ text. string_bytes text ≡ auction_page_text (auction_value auction.now)) }
-{
-    let heading = &auction.heading;
-    let reserve = heading.reserve();
-    let floor = heading.floor();
-    let page = page_of(alloc, auction.ads.as_slice(), heading.places())?;
-    let mut text = String::new(alloc);
-    for (index, ranked) in page.as_slice().iter().enumerate() {
-        let price = price(&ranked.ad, ranked.next.as_ref(), reserve, floor);
-        write_entrant(&mut text, index as u64 + 1, &ranked.ad, price)?;
+    ensures written {
+        IsWritten (T.sink output.old) (T.sink output.new) (page_printout (auction_value auction.now)) result
     }
-    text.push_str("end\n")?;
-    Ok(text)
+    ensures faults { (T.sink output.old).faults ≤ (T.sink output.new).faults }
+    ensures source_side { T.source_side output.new ≡ T.source_side output.old }
+{
+    let Ok(page) = page_of(alloc, auction.ads.as_slice(), auction.heading.places()) else {
+        return NO_MEMORY;
+    };
+    let Ok(mut out) = OutBuf::new(alloc) else {
+        return NO_MEMORY;
+    };
+    match send_page(&mut out, output, auction, page.as_slice()) {
+        Ok(()) => ENDED,
+        Err(_) => WRITE_FAULT,
+    }
 }
 
-/// Appends the line of an entrant: its place, its name and its price in cents.
-fn write_entrant(text: &mut String, place: u64, ad: &Ad, price: u64) -> Result<(), NoMemory>
-    ensures { OnOk result (string_bytes text.new ≡ string_bytes text.old ++ entrant_line place ad.now price) }
+/// Writes the lines of a page through a buffer in which nothing waits.
+fn send_page<T: Sink>(
+    out: &mut OutBuf,
+    output: &mut T,
+    auction: &Auction,
+    page: &[Ranked],
+) -> Result<(), WriteFault>
+    requires empty { out.old ≡ [] }
+    requires meets { All (MeetsHeading auction.now.heading) auction.now.ads.items }
+    requires page { page.now ≡ ranked (entrants auction.now.ads.items) auction.now.heading.places }
+    requires each { All (IsRankedAmong auction.now.ads.items) page.now }
+    requires different_accounts { AreOfDifferentAccounts (entrants auction.now.ads.items) }
+    ensures sends {
+        Sends (T.sink output.old) (T.sink output.new) (auction_page_text (auction_value auction.now)) result
+    }
+    ensures source_side { T.source_side output.new ≡ T.source_side output.old }
 {
-    write!(text, "{place} ")?;
-    write_name(text, ad)?;
-    writeln!(text, " {price}")
+    let reserve = auction.heading.reserve();
+    let floor = auction.heading.floor();
+    for (index, ranked) in page.iter().enumerate() {
+        let price = price(&ranked.ad, ranked.next.as_ref(), reserve, floor);
+        put_entrant(out, output, index as u64 + 1, &ranked.ad, price)?;
+    }
+    out.put_str(output, "end\n")?;
+    out.flush(output)
 }
 
-/// Appends the name of an ad's line.
-fn write_name(text: &mut String, ad: &Ad) -> Result<(), NoMemory>
-    ensures { OnOk result (string_bytes text.new ≡ string_bytes text.old ++ ad_name_text ad.now) }
+/// Puts the line of an entrant: its place, its name and its price in cents.
+fn put_entrant<T: Sink>(
+    out: &mut OutBuf,
+    output: &mut T,
+    place: u64,
+    ad: &Ad,
+    price: u64,
+) -> Result<(), WriteFault>
+    ensures puts { Puts (T.sink output.old) (T.sink output.new) out.old out.new (entrant_line place ad.now price) result }
+    ensures source_side { T.source_side output.new ≡ T.source_side output.old }
 {
-    let account = ad.account();
-    let campaign = ad.campaign();
-    let line = ad.line();
-    write!(text, "{account}.{campaign}.{line}")
+    let pieces = [
+        Piece::Number(place),
+        Piece::Text(" "),
+        Piece::Number(ad.account()),
+        Piece::Text("."),
+        Piece::Number(ad.campaign()),
+        Piece::Text("."),
+        Piece::Number(ad.line()),
+        Piece::Text(" "),
+        Piece::Number(price),
+        Piece::Text("\n"),
+    ];
+    out.put_all(output, &pieces)
 }

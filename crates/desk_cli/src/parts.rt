@@ -3,6 +3,8 @@
 ghost use Rattle.std.specs.Prelude.{◌≡◌, ◌≢◌, ◌∷◌, [], length, MatchOption};
 ghost use Rattle.desk_cli.specs.Form.{parts};
 
+use memchr::memchr;
+
 /// The three parts of a text between its two dots, or `None` where it has another number of dots.
 #[tactic(auto, using(crate::proofs::PartLemmas::parts_some))]
 pub fn three_parts(text: &str) -> Option<(&str, &str, &str)>
@@ -20,8 +22,6 @@ pub fn three_parts(text: &str) -> Option<(&str, &str, &str)>
 fn cut_at_dot(text: &str) -> Option<(&str, &str)>
     ensures { MatchOption result (parts text.now ≡ text.now ∷ []) (λ cut. parts text.now ≡ cut.0.now ∷ parts cut.1.now) }
 {
-    match text.split_once('.') {
-        Some(cut) => Some(cut),
-        None => None,
-    }
+    let end = memchr(b'.', text.as_bytes())?;
+    Some((&text[..end], &text[end + 1..]))
 }

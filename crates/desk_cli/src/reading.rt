@@ -1,21 +1,19 @@
 //! What a reader of an auction keeps from line to line.
 
-ghost use Rattle.std.specs.Prelude.{◌≡◌, ◌≢◌, ◌∷◌, ◌++◌, [], None, Some, All, OnOk, OnErr, IfOk, IfErr};
-ghost use Rattle.desk_cli.specs.Ending.{ReadsAs};
+ghost use Rattle.std.specs.Prelude.{◌≡◌, ◌≢◌, ◌-◌, ◌^◌, ◌<◌, ◌∷◌, ◌++◌, [], None, Some, All, OnOk, OnErr, IfOk, IfErr};
+ghost use Rattle.desk_cli.specs.Ending.{auction_value, Gives, IsFault};
 ghost use Rattle.desk_cli.specs.Form.{ad_in, heading_in};
 ghost use Rattle.desk_cli.specs.MeetsHeading.{MeetsHeading};
-ghost use Rattle.desk_cli.specs.AuctionValue.{heading_fault};
-ghost use Rattle.desk_cli.specs.Running.{EndsBy, ad_fault_now, fault_now, end_of, kept_ads, name_fault, nothing_yet, after_spoken, after_line, with_ad};
-ghost use Rattle.desk_cli.specs.AuctionLines.{is_eligible_under};
+ghost use Rattle.desk_cli.specs.Reading.{auction_from, is_eligible_under, kept_ads, name_fault, nothing_yet, take_ad as ad_taken, take_heading as heading_taken, take_text};
 
 use crate::auction::Auction;
-use crate::fault::{LineFault, ReadEnd};
+use crate::fault::ReadEnd;
 use crate::form::{AdLine, LineName, read_ad, read_heading};
 use crate::heading::Heading;
 use crate::limits::ADS_MAX;
+use desk_io::LineFault;
 use desk_types::Ad;
 use indexmap::IndexSet;
-use script_api::fields::is_skipped;
 use std::alloc::Global;
 use std::marker::Model;
 
@@ -28,7 +26,7 @@ pub struct AuctionReading {
 }
 
 impl Model for AuctionReading {
-    ghost use Rattle.desk_cli.specs.Running.{SoFar};
+    ghost use Rattle.desk_cli.specs.Reading.{SoFar};
     ghost use Rattle.desk_cli.specs.MeetsHeading.{AllMeet};
 
     ghost Value = { SoFar };
@@ -54,35 +52,25 @@ impl AuctionReading {
     /// Takes the text of the next line, whose number it is told.
     ///
     /// It fails where the line has a fault, or for want of memory; the reading is then over.
-    #[tactic(auto, unfolding(crate::specs::Running::fault_now, crate::specs::Running::after_line, crate::specs::Running::spoken_fault, crate::specs::Running::after_spoken))]
+    #[tactic(auto, unfolding(crate::specs::Reading::take_text))]
     pub fn take(&mut self, number: u64, text: &[u8]) -> Result<(), ReadEnd>
-        ensures taken { OnOk result ((fault_now self.old number text.now ≡ None) × (self.new ≡ after_line self.old text.now)) }
-        ensures ended { IfErr result (EndsBy (fault_now self.old number text.now)) }
+        ensures { Gives (λ _. self.new) (take_text self.old (record { number = number; text = text.now })) result }
     {
-        if is_skipped(text) {
-            return Ok(());
-        }
-        match self.heading() {
+        match self.heading {
             None => self.take_heading(number, text),
             Some(heading) => self.take_ad(&heading, number, text),
         }
     }
 
-    /// The heading, once a line spelled it.
-    pub fn heading(&self) -> Option<Heading>
-        ensures { result ≡ self.now.heading }
-    {
-        self.heading
-    }
-
-    /// The auction that the lines spelled, where the end stands in place of the numbered line.
-    pub fn end(self, number: u64) -> Result<Auction, ReadEnd>
-        ensures reads { ReadsAs (end_of self.heading number self.eligible) result }
+    /// The auction that the lines spelled, where the end stands behind so many of them.
+    pub fn end(self, count: u64) -> Result<Auction, ReadEnd>
+        requires { count < 2 ^ 64 - 1 }
+        ensures gives { Gives auction_value (auction_from self.heading count self.eligible) result }
         ensures meets { IfOk result (λ auction. All (MeetsHeading auction.heading) auction.ads.items) }
         ensures no_read_fault { IfErr result (λ end. end ≢ ReadEnd.ReadFault) }
     {
         match self.heading {
-            None => Err(ReadEnd::Fault(LineFault::BadLine(number))),
+            None => Err(ReadEnd::Fault(LineFault::BadLine(count + 1))),
             Some(heading) => Ok(Auction {
                 heading,
                 ads: self.eligible,
@@ -91,11 +79,10 @@ impl AuctionReading {
     }
 
     /// Takes the line of the heading.
-    #[tactic(auto, unfolding(crate::specs::Running::after_spoken))]
+    #[tactic(auto, unfolding(crate::specs::Reading::take_heading))]
     fn take_heading(&mut self, number: u64, text: &[u8]) -> Result<(), ReadEnd>
         requires { self.old.heading ≡ None }
-        ensures taken { OnOk result ((heading_fault number (heading_in text.now) ≡ None) × (self.new ≡ after_spoken None self.old text.now)) }
-        ensures ended { IfErr result (EndsBy (heading_fault number (heading_in text.now))) }
+        ensures { Gives (λ _. self.new) (heading_taken self.old number (heading_in text.now)) result }
     {
         match read_heading(text) {
             None => Err(ReadEnd::Fault(LineFault::BadLine(number))),
@@ -107,11 +94,10 @@ impl AuctionReading {
     }
 
     /// Takes the line of an ad.
-    #[tactic(auto, unfolding(crate::specs::Running::ad_fault_now, crate::specs::Running::with_ad))]
+    #[tactic(auto, unfolding(crate::specs::Reading::take_ad))]
     fn take_ad(&mut self, heading: &Heading, number: u64, text: &[u8]) -> Result<(), ReadEnd>
         requires { self.old.heading ≡ Some heading.now }
-        ensures taken { OnOk result ((ad_fault_now self.old number (ad_in text.now) ≡ None) × (self.new ≡ with_ad heading.now self.old (ad_in text.now))) }
-        ensures ended { IfErr result (EndsBy (ad_fault_now self.old number (ad_in text.now))) }
+        ensures { Gives (λ _. self.new) (ad_taken heading.now self.old number (ad_in text.now)) result }
     {
         match read_ad(text) {
             None => Err(ReadEnd::Fault(LineFault::BadLine(number))),
@@ -126,10 +112,11 @@ impl AuctionReading {
 /// Puts the name of an ad behind the earlier ones.
 ///
 /// It fails where the name stands there already, where it is one too many, or for want of memory.
-#[tactic(auto, unfolding(crate::specs::Running::name_fault))]
+#[tactic(auto, unfolding(crate::specs::Reading::name_fault))]
 fn note_name(names: &mut IndexSet<LineName>, name: LineName, number: u64) -> Result<(), ReadEnd>
-    ensures noted { OnOk result ((name_fault names.old.keys number name ≡ None) × (names.new.keys ≡ names.old.keys ++ name ∷ [])) }
-    ensures ended { IfErr result (EndsBy (name_fault names.old.keys number name)) }
+    ensures none { OnOk result (name_fault names.old.keys number name ≡ None) }
+    ensures noted { OnOk result (names.new.keys ≡ names.old.keys ++ name ∷ []) }
+    ensures fault { IfErr result (IsFault (name_fault names.old.keys number name)) }
 {
     if names.contains(&name) {
         return Err(ReadEnd::Fault(LineFault::BadLine(number)));
@@ -145,7 +132,9 @@ fn note_name(names: &mut IndexSet<LineName>, name: LineName, number: u64) -> Res
 
 /// Puts an ad behind the earlier ones where it is eligible; else it is left out.
 fn keep(eligible: &mut Vec<Ad>, heading: &Heading, line: &AdLine) -> Result<(), ReadEnd>
-    ensures kept { OnOk result (eligible.new.items ≡ eligible.old.items ++ kept_ads (is_eligible_under heading.now line.now) line.now) }
+    ensures kept {
+        OnOk result (eligible.new.items ≡ eligible.old.items ++ kept_ads (is_eligible_under heading.now line.now) line.now)
+    }
     ensures same { OnErr result (eligible.new.items ≡ eligible.old.items) }
     ensures ended { IfErr result (λ end. end ≡ ReadEnd.NoMemory) }
 {
@@ -156,7 +145,7 @@ fn keep(eligible: &mut Vec<Ad>, heading: &Heading, line: &AdLine) -> Result<(), 
 }
 
 /// Whether an ad's bid meets the reserve, the floor and its campaign's free budget.
-#[tactic(auto, unfolding(crate::specs::AuctionLines::is_eligible_under))]
+#[tactic(auto, unfolding(crate::specs::Reading::is_eligible_under))]
 fn admits(heading: &Heading, line: &AdLine) -> bool
     ensures { result ≡ is_eligible_under heading.now line.now }
 {

@@ -1,19 +1,18 @@
 //! The command `script`.
 
-ghost use Rattle.std.specs.Prelude.{◌≡◌, ◌≤◌, [], string_bytes, IfOk, IfSome};
+ghost use Rattle.std.specs.Prelude.{◌≡◌, ◌≤◌, [], IfSome};
+ghost use Rattle.desk_types.specs.Serving.{HasNoFault};
 ghost use Rattle.desk_types.specs.SettingsValue.{usual};
 ghost use Rattle.desk_core.specs.SoloValue.{AreOwn};
-ghost use Rattle.desk_cli.specs.Ending.{IsWritten};
-ghost use Rattle.desk_cli.specs.Printout.{Printout, fault_printout};
-ghost use Rattle.desk_cli.specs.ScriptCall.{HoldsThroughout, IsLastSaid, IsScriptServed, not_built_printout};
+ghost use Rattle.desk_cli.specs.ScriptCall.{call_at, HoldsThroughout, IsLastSaid, IsScriptServed};
 
-use crate::answer::{Answer, fault_answer, read_fault_answer, say};
-use crate::fault::LineFault;
+use crate::say::{say, say_fault, say_line};
+use crate::status::{BAD_LINE, ENDED, NO_MEMORY, READ_FAULT, WRITE_FAULT};
 use desk_core::{Desk, Solo};
-use desk_io::{Sink, Source};
+use desk_io::{LineFault, Piece, Sink, Source};
 use desk_types::Settings;
 use script_api::{ScriptEnd, script};
-use std::alloc::{AllocError as NoMemory, Global};
+use std::alloc::Global;
 
 /// What a call of the program leaves.
 #[derive(Drop)]
@@ -28,63 +27,42 @@ pub struct Served {
 pub fn serve_script<S: Source, T: Sink>(alloc: Global, input: &mut S, output: &mut T) -> (u8, Desk)
     ensures settings { result.1.settings ≡ usual }
     ensures own { AreOwn 1 result.1.log }
-    ensures served { IsScriptServed (S.source input.old) (S.source input.new) (T.sink output.old) (T.sink output.new) result.1 result.0 }
+    ensures served {
+        IsScriptServed (call_at (S.source input.old) (T.sink output.old))
+            (call_at (S.source input.new) (T.sink output.new)) result.1 result.0
+    }
+    ensures no_fault { HasNoFault result.1.log }
     ensures throughout { HoldsThroughout result.1 }
-    ensures all_read { result.0 ≡ 0 → IfSome (S.source input.new).left (λ bytes. bytes ≡ []) }
+    ensures all_read { result.0 ≡ ENDED → IfSome (S.source input.new).left (λ bytes. bytes ≡ []) }
     ensures read_faults { (S.source input.old).faults ≤ (S.source input.new).faults }
     ensures write_faults { (T.sink output.old).faults ≤ (T.sink output.new).faults }
+    ensures sink_side { S.sink_side input.new ≡ S.sink_side input.old }
+    ensures source_side { T.source_side output.new ≡ T.source_side output.old }
 {
     let desk = Desk::new(alloc, Settings::usual());
     let mut service = Solo::new(desk, 1);
     let end = script(alloc, &mut service, input, output);
     let status = say_end(alloc, output, end);
-    (status, service.end())
+    let desk = service.end();
+    let _log = desk.log();
+    (status, desk)
 }
 
-/// Writes how a script ended, where that has a line, and answers the status.
+/// Says how a script ended, where that has a line, and answers the status.
 fn say_end<T: Sink>(alloc: Global, output: &mut T, end: ScriptEnd) -> u8
     ensures said { IsLastSaid (T.sink output.old) (T.sink output.new) end result }
-    ensures all_read { result ≡ 0 → end ≡ ScriptEnd.Ended }
+    ensures ended { result ≡ ENDED → end ≡ ScriptEnd.Ended }
     ensures faults { (T.sink output.old).faults ≤ (T.sink output.new).faults }
+    ensures source_side { T.source_side output.new ≡ T.source_side output.old }
 {
     match end {
-        ScriptEnd::Ended => 0,
-        ScriptEnd::WriteFault => 4,
-        ScriptEnd::NoMemory => 5,
+        ScriptEnd::Ended => ENDED,
+        ScriptEnd::WriteFault => WRITE_FAULT,
+        ScriptEnd::NoMemory => NO_MEMORY,
         ScriptEnd::BadLine(number) => say_fault(alloc, output, LineFault::BadLine(number)),
         ScriptEnd::LongLine(number) => say_fault(alloc, output, LineFault::LongLine(number)),
         ScriptEnd::TooManyLines => say_fault(alloc, output, LineFault::TooManyLines),
-        ScriptEnd::NotBuilt(number) => say_answer(alloc, output, not_built_answer(alloc, number)),
-        ScriptEnd::ReadFault => say_answer(alloc, output, read_fault_answer(alloc)),
+        ScriptEnd::NotBuilt(number) => say_line(alloc, output, "not built ", number, BAD_LINE),
+        ScriptEnd::ReadFault => say(alloc, output, &[Piece::Text("read fault\n")], READ_FAULT),
     }
-}
-
-/// Writes the line of a fault, and answers its status.
-fn say_fault<T: Sink>(alloc: Global, output: &mut T, fault: LineFault) -> u8
-    ensures said { IsWritten (T.sink output.old) (T.sink output.new) (fault_printout fault) result }
-    ensures faults { (T.sink output.old).faults ≤ (T.sink output.new).faults }
-{
-    say_answer(alloc, output, fault_answer(alloc, fault))
-}
-
-/// Writes an answer, and answers its status, or 5 where the answer wanted memory.
-fn say_answer<T: Sink>(alloc: Global, output: &mut T, answer: Result<Answer, NoMemory>) -> u8
-    ensures said { (printout : Printout) → IfOk answer (λ made. (string_bytes made.text ≡ printout.text) × (made.status ≡ printout.status)) → IsWritten (T.sink output.old) (T.sink output.new) printout result }
-    ensures faults { (T.sink output.old).faults ≤ (T.sink output.new).faults }
-{
-    match answer {
-        Ok(answer) => say(alloc, output, answer.text.as_str(), answer.status),
-        Err(_) => 5,
-    }
-}
-
-/// The answer to a script with a line of which no call can be made yet.
-fn not_built_answer(alloc: Global, number: u64) -> Result<Answer, NoMemory>
-    ensures text { IfOk result (λ answer. string_bytes answer.text ≡ (not_built_printout number).text) }
-    ensures status { IfOk result (λ answer. answer.status ≡ 8) }
-{
-    Ok(Answer {
-        text: format!(in alloc; "not built {number}\n")?,
-        status: 8,
-    })
 }

@@ -1,28 +1,31 @@
 //! The call that the program makes.
 
-ghost use Rattle.std.specs.Prelude.{◌≡◌, ◌≤◌, ◌↔◌, [], map, IsTrue, IfSome, IfOk, string_bytes};
-ghost use Rattle.desk_cli.specs.Ending.{AreWord, IsAuctionPrintout, IsWritten};
-ghost use Rattle.desk_cli.specs.Printout.{Printout};
-ghost use Rattle.desk_cli.specs.TopCall.{CallEnds};
+ghost use Rattle.std.specs.Prelude.{◌≡◌, ◌≤◌, ◌↔◌, [], map, IsTrue, IfSome, string_bytes};
+ghost use Rattle.desk_types.specs.Serving.{HasNoFault};
+ghost use Rattle.desk_cli.specs.ScriptCall.{call_at};
+ghost use Rattle.desk_cli.specs.TopCall.{AreWord, CallEnds, IsAuctionServed};
 
-use crate::answer::{Answer, fault_answer, page_answer, read_fault_answer, say};
 use crate::auction::read_auction;
 use crate::fault::ReadEnd;
+use crate::page::say_page;
+use crate::say::{say, say_fault};
 use crate::script::{Served, serve_script};
-use desk_io::{Sink, Source};
-use std::alloc::{AllocError as NoMemory, Global};
+use crate::status::{ENDED, NO_MEMORY, READ_FAULT, WORDS_REFUSED};
+use desk_io::{Piece, Sink, Source};
+use std::alloc::Global;
 
 /// Runs the command that the words name, and answers the status of the process with the desk that
 /// was served, where the command opens one.
 ///
 /// `auction` reads an auction from the input and writes its page, or a line that says why there is
 /// none. `script` reads a script, makes its calls on a new desk, and writes the line of each answer.
+/// Other words are refused, and nothing of the input is read.
 ///
 /// | Status | Comes | Line written last |
 /// |---|---|---|
 /// | 0 | the input is an auction, or a script that no line ends | - |
 /// | 2 | the words are neither the one word `auction` nor the one word `script` | `words refused` |
-/// | 3 | a read failed: the input's count of faults rose | `read fault` |
+/// | 3 | a read failed, and no line read before ends the auction or the script: the input's count of faults rose | `read fault` |
 /// | 4 | a write failed: the output's count of faults rose | - |
 /// | 5 | want of memory, other than in a call of the desk | - |
 /// | 8 | a line in no form, or the end before the heading of an auction | `bad line K` |
@@ -34,10 +37,16 @@ pub fn desk_top<S: Source, T: Sink>(
     input: &mut S,
     output: &mut T,
 ) -> Served
-    ensures ended { CallEnds (map string_bytes words.now) (S.source input.old) (S.source input.new) (T.sink output.old) (T.sink output.new) result }
-    ensures all_read { result.status ≡ 0 → IfSome (S.source input.new).left (λ bytes. bytes ≡ []) }
+    ensures ended {
+        CallEnds (map string_bytes words.now) (call_at (S.source input.old) (T.sink output.old))
+            (call_at (S.source input.new) (T.sink output.new)) result
+    }
+    ensures no_fault { IfSome result.desk (λ desk. HasNoFault desk.log) }
+    ensures all_read { result.status ≡ ENDED → IfSome (S.source input.new).left (λ bytes. bytes ≡ []) }
     ensures read_faults { (S.source input.old).faults ≤ (S.source input.new).faults }
     ensures write_faults { (T.sink output.old).faults ≤ (T.sink output.new).faults }
+    ensures sink_side { S.sink_side input.new ≡ S.sink_side input.old }
+    ensures source_side { T.source_side output.new ≡ T.source_side output.old }
 {
     if are_word(words, "auction") {
         let status = serve_auction(alloc, input, output);
@@ -50,7 +59,7 @@ pub fn desk_top<S: Source, T: Sink>(
             desk: Some(desk),
         };
     }
-    let status = say(alloc, output, "words refused\n", 2);
+    let status = say(alloc, output, &[Piece::Text("words refused\n")], WORDS_REFUSED);
     Served { status, desk: None }
 }
 
@@ -66,27 +75,20 @@ fn are_word(words: &[String], word: &str) -> bool
 
 /// Reads an auction and writes its page, or why there is none.
 fn serve_auction<S: Source, T: Sink>(alloc: Global, input: &mut S, output: &mut T) -> u8
-    ensures ended { (printout : Printout) × IsAuctionPrintout (S.source input.old) (S.source input.new) printout × IsWritten (T.sink output.old) (T.sink output.new) printout result }
-    ensures all_read { result ≡ 0 → IfSome (S.source input.new).left (λ bytes. bytes ≡ []) }
+    ensures served {
+        IsAuctionServed (call_at (S.source input.old) (T.sink output.old))
+            (call_at (S.source input.new) (T.sink output.new)) result
+    }
+    ensures all_read { result ≡ ENDED → IfSome (S.source input.new).left (λ bytes. bytes ≡ []) }
     ensures read_faults { (S.source input.old).faults ≤ (S.source input.new).faults }
     ensures write_faults { (T.sink output.old).faults ≤ (T.sink output.new).faults }
-{
-    match auction_answer(alloc, input) {
-        Ok(answer) => say(alloc, output, answer.text.as_str(), answer.status),
-        Err(_) => 5,
-    }
-}
-
-/// Reads an auction, and answers its page or why there is none.
-fn auction_answer<S: Source>(alloc: Global, input: &mut S) -> Result<Answer, NoMemory>
-    ensures printout { IfOk result (λ answer. IsAuctionPrintout (S.source input.old) (S.source input.new) (record { text = string_bytes answer.text; status = answer.status })) }
-    ensures all_read { IfOk result (λ answer. answer.status ≡ 0 → IfSome (S.source input.new).left (λ bytes. bytes ≡ [])) }
-    ensures faults { (S.source input.old).faults ≤ (S.source input.new).faults }
+    ensures sink_side { S.sink_side input.new ≡ S.sink_side input.old }
+    ensures source_side { T.source_side output.new ≡ T.source_side output.old }
 {
     match read_auction(alloc, input) {
-        Ok(auction) => page_answer(alloc, &auction),
-        Err(ReadEnd::Fault(fault)) => fault_answer(alloc, fault),
-        Err(ReadEnd::ReadFault) => read_fault_answer(alloc),
-        Err(ReadEnd::NoMemory) => Err(NoMemory),
+        Ok(auction) => say_page(alloc, output, &auction),
+        Err(ReadEnd::Fault(fault)) => say_fault(alloc, output, fault),
+        Err(ReadEnd::ReadFault) => say(alloc, output, &[Piece::Text("read fault\n")], READ_FAULT),
+        Err(ReadEnd::NoMemory) => NO_MEMORY,
     }
 }

@@ -1,16 +1,23 @@
-use Rattle.std.proofs.Common.{◌≡◌, ◌<◌, arith}
-use Rattle.desk_io.specs.NextLine.{ahead}
-use Rattle.desk_cli.proofs.Turns.{whole-there, whole-past}
+use Rattle.std.proofs.Common.{arith, refl, subst, Bool, Ok}
+use Rattle.std.proofs.lemmas.Result.{err_from_is_err_and}
+use Rattle.desk_cli.specs.Ending.{Goes}
+use Rattle.desk_cli.proofs.Turns.{reading-none}
 use Rattle.desk_cli.proofs.auction.read_lines.Goals as goal
 
-pub returns-in-Ok-clause-spelled : goal.returns-in-Ok-clause-spelled
-returns-in-Ok-clause-spelled g c =
-    let is : c.loop-number.number ≡ 1000001 = omega arith in
-    whole-there (ahead c.args.reader.now (g.S.Source.source c.args.input.now).left) (ahead c.loop-number.reader (g.S.Source.source c.loop-number.input).left)
-    c.args.reading.now c.loop-number.reading c.loop-number.number 1000001 c.loop-number.invariant.judged is (omega arith) c.in-Ok.ensures.ends
+pub loop-init : goal.loop-init
+loop-init g c = record {
+  reading = reading-none (g.S.Source.source c.args.input.now).left c.args.lines.now c.args.reading.now c.requires.lines c.requires.nothing;
+  within = rw c.requires.lines (omega arith);
+  faults = omega arith;
+  sink_side = refl;
+}
 
-pub returns-in-Err-clause-spelled : goal.returns-in-Err-clause-spelled
-returns-in-Err-clause-spelled g c =
-    let many : 1000000 < c.loop-number.number = omega arith in
-    whole-past (ahead c.args.reader.now (g.S.Source.source c.args.input.now).left) (ahead c.loop-number.reader (g.S.Source.source c.loop-number.input).left)
-    c.args.reading.now c.loop-number.reading c.loop-number.number c.in-Err.end c.loop-number.invariant.judged many c.in-Err.ensures.ends
+pub returns-in_err-take_line-clause-ended : goal.returns-in_err-take_line-clause-ended
+returns-in_err-take_line-clause-ended g c =
+    let p = err_from_is_err_and c.from_residual.result c.from_residual.ensures.1 in
+    rw (p.1, p.2) (c.in_err-take_line.ensures.goes (g.S.Source.source c.args.input.now).left c.loop.invariant.reading)
+
+pub returns-then-not-branch-clause-all : goal.returns-then-not-branch-clause-all
+returns-then-not-branch-clause-all g c =
+    subst (λ (more : Bool). Goes (g.S.Source.source c.args.input.now).left c.take_line.new.lines (g.S.Source.source c.take_line.new.input).left c.take_line.new.reading (Ok more))
+    c.if-not-branch.true (c.in_ok-take_line.ensures.goes (g.S.Source.source c.args.input.now).left c.loop.invariant.reading)

@@ -1,11 +1,16 @@
-use Rattle.std.specs.Option.{option_map}
-use Rattle.desk_io.specs.NextLine.{ahead}
-use Rattle.desk_cli.specs.Running.{spelled_from}
-use Rattle.desk_cli.proofs.Turns.{IsAt}
+use Rattle.std.proofs.Common.{◌≡◌, ◌≤◌, ◌-◌}
+use Rattle.desk_io.specs.declared.limits.TheConstants.{INPUT_LINES_MAX}
+use Rattle.desk_cli.specs.Ending.{IsReading}
 use Rattle.desk_cli.proofs.auction.read_lines.Given as goal
 
-abbrev pub invariant-loop-number : goal.invariant-loop-number
-invariant-loop-number g l =
-    IsAt (option_map (spelled_from l.fn.reading 1) (ahead l.fn.reader (g.S.Source.source l.fn.input).left))
-    (option_map (spelled_from l.reading l.number) (ahead l.reader (g.S.Source.source l.input).left))
-    l.reader.max (g.S.Source.source l.fn.input).faults (g.S.Source.source l.input).faults
+-- what was read so far has no fault
+abbrev pub invariant-loop : goal.invariant-loop
+invariant-loop g l = record {
+  reading : IsReading (g.S.Source.source l.fn.input).left l.lines (g.S.Source.source l.input).left l.reading;
+  within : l.lines.count ≤ INPUT_LINES_MAX;
+  faults : (g.S.Source.source l.fn.input).faults ≤ (g.S.Source.source l.input).faults;
+  sink_side : g.S.Source.sink_side l.input ≡ g.S.Source.sink_side l.fn.input;
+}
+
+abbrev pub decreases-loop : goal.decreases-loop
+decreases-loop g l = INPUT_LINES_MAX - l.lines.count

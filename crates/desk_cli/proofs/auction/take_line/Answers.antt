@@ -1,38 +1,54 @@
-use Rattle.std.proofs.Common.{◌+◌}
-use Rattle.std.specs.Option.{option_map}
-use Rattle.std.specs.Prelude.{None}
-use Rattle.desk_io.specs.NextLine.{ahead}
-use Rattle.desk_cli.specs.Running.{end_of, spelled_from}
-use Rattle.desk_io.proofs.Ahead.{none_left}
-use Rattle.desk_cli.proofs.Turns.{turned-line, turned-ended, turned-end, turned-long}
+use Rattle.std.proofs.Common.{◌≡◌, ◌∙◌, ◌∷◌, [], Bool, true, false, Ok, Err, ap, sym}
+use Rattle.std.proofs.lemmas.Result.{err_from_is_err_and}
+use Rattle.desk_cli.proofs.Turns.{goes, spoken, ends-there, cut-off, taken-spoken, taken-skipped, ahead-none, last-none, not-last, told-later}
 use Rattle.desk_cli.proofs.auction.take_line.Goals as goal
 
-pub returns-in-Ok-clause-turned : goal.returns-in-Ok-clause-turned
-returns-in-Ok-clause-turned g c =
-    rw c.in-Ok.ensures.taken.1
-    (turned-line c.args.reading.now c.args.number c.line.result.now c.args.reader.now.max
-    (ahead c.args.reader.now (g.S.Source.source c.args.input.now).left) (ahead c.next.new.self (g.S.Source.source c.next.new.source).left)
-    (end_of c.args.reading.now.heading c.args.number c.args.reading.now.eligible)
-    c.requires.max c.requires.number.0 c.requires.number.1 c.in-Line.ensures.lines.0 (rw c.line.ensures c.in-Line.ensures.lines.1) c.in-Ok.ensures.taken.0)
+pub returns-in_err-take-in-Text-clause-goes : goal.returns-in_err-take-in-Text-clause-goes
+returns-in_err-take-in-Text-clause-goes g c = λ whole reading.
+    let p = err_from_is_err_and c.from_residual.result c.from_residual.ensures.1 in
+    rw (p.1, p.2) (spoken whole c.args.lines.now (g.S.Source.source c.args.input.now).left c.args.reading.now reading c.next.new.self (g.S.Source.source c.next.new.source).left
+    (record { line = c.in-Text.ensures.line; counted = c.in-Text.ensures.count }) c.in-Text.ensures.passed c.number.result c.text.result.now c.take.new.self c.in_err-take-in-Text.field-0.0
+    c.number.ensures c.text.ensures c.in_err-take-in-Text.ensures)
 
-pub returns-in-Err-clause-turned : goal.returns-in-Err-clause-turned
-returns-in-Err-clause-turned g c =
-    turned-ended c.args.reading.now c.args.number c.line.result.now c.args.reader.now.max
-    (ahead c.args.reader.now (g.S.Source.source c.args.input.now).left)
-    (option_map (spelled_from c.take.new.self (c.args.number + 1)) (ahead c.next.new.self (g.S.Source.source c.next.new.source).left))
-    (end_of c.take.new.self.heading c.args.number c.take.new.self.eligible) c.in-Err.end
-    c.requires.max c.requires.number.0 c.requires.number.1 (rw c.line.ensures c.in-Line.ensures.lines.1) c.in-Err.ensures.ended
+pub returns-in_ok-take-in-Text-clause-goes : goal.returns-in_ok-take-in-Text-clause-goes
+returns-in_ok-take-in-Text-clause-goes g c = λ whole reading.
+    goes whole c.args.lines.now (g.S.Source.source c.args.input.now).left c.args.reading.now reading c.next.new.self (g.S.Source.source c.next.new.source).left
+    (record { line = c.in-Text.ensures.line; counted = c.in-Text.ensures.count }) c.take.new.self _
+    (not-last c.is_last.result c.next.new.self.is_ended c.is_last.ensures)
+    (taken-spoken reading.texts c.args.reading.now reading.taken c.next.new.self.count c.next.new.self.text c.in-Text.ensures.passed
+    ∙ (rw (c.number.ensures, c.text.ensures) at c.in_ok-take-in-Text.ensures))
 
-pub returns-in-End-clause-turned : goal.returns-in-End-clause-turned
-returns-in-End-clause-turned g c =
-    turned-end c.args.reading.now c.args.number (ahead c.args.reader.now (g.S.Source.source c.args.input.now).left) None c.requires.number.0 c.in-End.ensures.lines.1
+pub returns-in_ok-take-in-Text-clause-all_read : goal.returns-in_ok-take-in-Text-clause-all_read
+returns-in_ok-take-in-Text-clause-all_read g c = λ is.
+    last-none c.args.lines.now c.next.new.self (g.S.Source.source c.args.input.now).left (g.S.Source.source c.next.new.source).left
+    (told-later (record { number = c.next.new.self.count; text = c.next.new.self.text } ∷ []) _ _ c.in-Text.ensures.told) c.in-Text.ensures.line
+    (sym (not-last c.is_last.result c.next.new.self.is_ended c.is_last.ensures) ∙ (let e = is in cc))
+
+pub returns-in-Skipped-clause-goes : goal.returns-in-Skipped-clause-goes
+returns-in-Skipped-clause-goes g c = λ whole reading.
+    goes whole c.args.lines.now (g.S.Source.source c.args.input.now).left c.args.reading.now reading c.next.new.self (g.S.Source.source c.next.new.source).left
+    (record { line = c.in-Skipped.ensures.line; counted = c.in-Skipped.ensures.count }) c.args.reading.now _
+    (not-last c.is_last-in-Skipped.result c.next.new.self.is_ended c.is_last-in-Skipped.ensures)
+    (taken-skipped reading.texts c.args.reading.now reading.taken c.next.new.self.count c.next.new.self.text c.in-Skipped.ensures.passed)
+
+pub returns-in-Skipped-clause-all_read : goal.returns-in-Skipped-clause-all_read
+returns-in-Skipped-clause-all_read g c = λ is.
+    last-none c.args.lines.now c.next.new.self (g.S.Source.source c.args.input.now).left (g.S.Source.source c.next.new.source).left
+    (λ none. sym c.in-Skipped.ensures.told ∙ none) c.in-Skipped.ensures.line
+    (sym (not-last c.is_last-in-Skipped.result c.next.new.self.is_ended c.is_last-in-Skipped.ensures) ∙ (let e = is in cc))
+
+pub returns-in-End-clause-goes : goal.returns-in-End-clause-goes
+returns-in-End-clause-goes g c = λ whole reading.
+    ends-there whole c.args.lines.now (g.S.Source.source c.args.input.now).left c.args.reading.now reading (Ok c.next.new.self.count) c.in-End.ensures.told
 
 pub returns-in-End-clause-all_read : goal.returns-in-End-clause-all_read
-returns-in-End-clause-all_read g c =
-    none_left c.next.new.self (g.S.Source.source c.next.new.source).left (rw c.in-End.ensures.lines.0 c.in-End.ensures.lines.1)
+returns-in-End-clause-all_read g c = λ is. ahead-none c.next.new.self (g.S.Source.source c.next.new.source).left c.in-End.ensures.line
 
-pub returns-in-TooLong-clause-turned : goal.returns-in-TooLong-clause-turned
-returns-in-TooLong-clause-turned g c =
-    turned-long c.args.reading.now c.args.number c.args.reader.now.max (ahead c.args.reader.now (g.S.Source.source c.args.input.now).left) None
-    (end_of c.args.reading.now.heading c.args.number c.args.reading.now.eligible)
-    c.requires.max c.requires.number.0 c.requires.number.1 c.in-TooLong.ensures.lines.1
+pub returns-in-Fault-clause-goes : goal.returns-in-Fault-clause-goes
+returns-in-Fault-clause-goes g c = λ whole reading.
+    ends-there whole c.args.lines.now (g.S.Source.source c.args.input.now).left c.args.reading.now reading (Err c.in-Fault.fault) c.in-Fault.ensures.told
+
+pub returns-in-ReadFault-clause-goes : goal.returns-in-ReadFault-clause-goes
+returns-in-ReadFault-clause-goes g c = λ whole reading.
+    cut-off whole c.args.lines.now (g.S.Source.source c.args.input.now).left c.args.reading.now reading c.next.new.self (g.S.Source.source c.next.new.source).left
+    c.in-ReadFault.ensures.line.0 c.in-ReadFault.ensures.line.1

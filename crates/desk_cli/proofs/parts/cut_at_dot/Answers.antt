@@ -1,11 +1,13 @@
-use Rattle.std.proofs.Common.{lit<}
-use Rattle.desk_cli.proofs.PartLemmas.{parts_none, parts_first}
+use Rattle.desk_cli.proofs.PartLemmas.{parts_none, parts_first, behind_dot}
 use Rattle.desk_cli.proofs.parts.cut_at_dot.Goals as goal
 
-pub returns-in-Some : goal.returns-in-Some
-returns-in-Some c =
-    let h = c.in-Some.ensures.byte (lit< tt) (λ w o f. f) in
-    parts_first c.args.text.now c.in-Some.cut.0.now c.in-Some.cut.1.now h.2 h.0 h.1
+pub range_from-requires : goal.range_from-requires
+range_from-requires c = λ _. behind_dot c.args.text.now c.in_ok-end.end c.utf8.text (rw c.as_bytes.ensures.value at c.in_ok-end.ensures)
 
-pub returns-in-None : goal.returns-in-None
-returns-in-None c = parts_none c.args.text.now (c.in-None.ensures.byte (lit< tt) (λ w o f. f))
+pub returns-in_err-end : goal.returns-in_err-end
+returns-in_err-end c = rw c.from_residual.ensures (parts_none c.args.text.now (rw c.as_bytes.ensures.value at c.in_err-end.ensures))
+
+pub returns : goal.returns
+returns c =
+    parts_first c.args.text.now c.range.result.now c.range_from.result.now c.in_ok-end.end
+    (rw c.as_bytes.ensures.value at c.in_ok-end.ensures) c.range.ensures.value c.range_from.ensures.value

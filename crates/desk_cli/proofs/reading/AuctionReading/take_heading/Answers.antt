@@ -1,5 +1,5 @@
 use Rattle.std.proofs.Common.{ap, ◌∙◌}
-use Rattle.desk_cli.specs.Running.{SoFar}
+use Rattle.desk_cli.specs.Reading.{SoFar}
 use Rattle.desk_cli.proofs.Meeting.{first-meet}
 use Rattle.desk_cli.proofs.reading.AuctionReading.take_heading.Goals as goal
 

@@ -134,8 +134,8 @@ pub record AreRead
   pub whole : Some bytes ≡ option_map (λ more. part ++ more) (unread now left)
   pub ended : AreEnded part
   pub tells :
-    (more : List ℕ)
-    → lines_told 0 (lines (part ++ more)) ≡ behind_texts texts (lines_told now.count (lines more))
+      (more : List ℕ)
+      → lines_told 0 (lines (part ++ more)) ≡ behind_texts texts (lines_told now.count (lines more))
 
 -- the same, where the bytes are told
 abbrev pub ReadSoFar : Option (List ℕ) → List NumberedText → NumberedValue → Option (List ℕ) → Type 0

@@ -54,9 +54,7 @@ impl Model for NumberedLines {
 
     ghost Value = { NumberedValue };
 
-    ghost view = {
-        λ n. record { count = n.count; held = n.reader.held; text = n.reader.line; is_ended = n.reader.is_ended }
-    };
+    ghost view = { λ n. record { count = n.count; held = n.reader.held; text = n.reader.line; is_ended = n.reader.is_ended } };
 
     ghost invariant = { λ n. (n.reader.max ≡ LINE_BYTES_MAX) × (n.count ≤ INPUT_LINES_MAX) };
 }
@@ -79,13 +77,9 @@ impl NumberedLines {
     /// comes only where the source's count of faults rose and no whole line is held; it takes nothing.
     pub fn next<S: Source>(&mut self, source: &mut S) -> NextLine
         ensures count { self.new.count ≡ self.old.count + lines_taken result }
-        ensures told {
-            TellsNext (told self.old (S.source source.old).left) (told self.new (S.source source.new).left)
-                result self.new
-        }
-        ensures line {
-            ReadsNext self.old self.new (S.source source.old).left (S.source source.new).left result
-        }
+        ensures told { TellsNext (told self.old (S.source source.old).left) (told self.new (S.source source.new).left)
+            result self.new }
+        ensures line { ReadsNext self.old self.new (S.source source.old).left (S.source source.new).left result }
         ensures passed { PassesOver result self.new.text }
         ensures short { length self.new.text ≤ LINE_BYTES_MAX }
         ensures within { self.new.count ≤ INPUT_LINES_MAX }
@@ -105,13 +99,9 @@ impl NumberedLines {
     fn take_line(&mut self) -> NextLine
         ensures full { INPUT_LINES_MAX ≤ self.old.count → result ≡ NextLine.Fault LineFault.TooManyLines }
         ensures same { INPUT_LINES_MAX ≤ self.old.count → self.new ≡ self.old }
-        ensures count {
-            self.old.count < INPUT_LINES_MAX → self.new ≡ record self.old { count = self.old.count + 1 }
-        }
-        ensures skipped {
-            self.old.count < INPUT_LINES_MAX →
-            result ≡ (if skips self.old.text then NextLine.Skipped else NextLine.Text)
-        }
+        ensures count { self.old.count < INPUT_LINES_MAX → self.new ≡ record self.old { count = self.old.count + 1 } }
+        ensures skipped { self.old.count < INPUT_LINES_MAX →
+            result ≡ (if skips self.old.text then NextLine.Skipped else NextLine.Text) }
     {
         if self.count == INPUT_LINES_MAX {
             return NextLine::Fault(LineFault::TooManyLines);
@@ -126,10 +116,8 @@ impl NumberedLines {
 
     // The fault of a next line with too many bytes.
     fn fault_of_long(&self) -> LineFault
-        ensures {
-            result ≡ (if nat_le INPUT_LINES_MAX self.now.count then LineFault.TooManyLines
-            else LineFault.LongLine (self.now.count + 1))
-        }
+        ensures { result ≡ (if nat_le INPUT_LINES_MAX self.now.count then LineFault.TooManyLines
+            else LineFault.LongLine (self.now.count + 1)) }
     {
         if self.count == INPUT_LINES_MAX {
             LineFault::TooManyLines

@@ -4,6 +4,7 @@ use Rattle.std.specs.Prelude.{Option, Some, None, IfSome, Result, Ok, Err, bytes
 use Rattle.std.proofs.lemmas.Slice.Eq.{bytes_eq-Decides}
 use Rattle.desk_io.specs.SinkView.{SinkView}
 use Rattle.desk_io.specs.SourceView.{SourceView}
+use Rattle.desk_io.specs.Writing.{AppendsNothing}
 use Rattle.desk_io.specs.declared.numbered_lines.LineFault.{LineFault}
 use Rattle.desk_io.specs.declared.numbered_lines.LineFault.TheVariants.{BadLine, LongLine, TooManyLines}
 use Rattle.desk_cli.specs.Printout.{Printout, printout_of, fault_status}
@@ -43,3 +44,7 @@ unfolding fault_status
 fault_status-not_0 (BadLine number) = λ e. omega (arith, e)
 fault_status-not_0 (LongLine number) = λ e. omega (arith, e)
 fault_status-not_0 TooManyLines = λ e. omega (arith, e)
+
+-- a sink to which nothing is written
+pub nothing-written : (o : SinkView) → AppendsNothing o o
+nothing-written o = record { nothing_written = refl; nothing_taken = refl }

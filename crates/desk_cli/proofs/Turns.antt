@@ -2,11 +2,10 @@
 use Rattle.std.proofs.Common.{◌≡◌, ℕ, ◌+◌, Bool, true, false, List, [], ◌∷◌, ◌++◌, Option, Some, None, IfSome, Result, Ok, Err, refl, sym, ap, subst, ◌∙◌, append-nil}
 use Rattle.std.specs.Prelude.{not}
 use Rattle.std.specs.Option.{option_map}
-use Rattle.desk_io.specs.Lines.{has_line_feed, lines, after_first_line}
-use Rattle.desk_io.specs.NumberedLines.{is_skipped, NumberedText, ToldLines, texts_of, behind_texts, lines_told, unread, told, AreCutOff, IsNextLine, IsStep}
+use Rattle.desk_io.specs.Lines.{has_line_feed, lines}
+use Rattle.desk_io.specs.NumberedLines.{is_skipped, NumberedText, ToldLines, texts_of, behind_texts, lines_told, unread, told, AreCutOff, IsStep}
 use Rattle.desk_io.specs.NumberedValue.{NumberedValue}
 use Rattle.desk_io.specs.declared.numbered_lines.LineFault.{LineFault}
-use Rattle.desk_io.proofs.LineCuts.{cut-none}
 use Rattle.desk_io.proofs.ReadSoFar.{read-none, read-line, read-last, read-through, read-all, read-cut_off, texts_of-spoken, texts_of-skipped}
 use Rattle.desk_cli.specs.declared.auction.Auction.{Auction}
 use Rattle.desk_cli.specs.declared.fault.ReadEnd.{ReadEnd}
@@ -117,28 +116,6 @@ module _ (whole : Option (List ℕ)) (was : NumberedValue) (left : Option (List 
       spoken plain number text so_far' ReadFault same_number same_text gives = absurd gives
       spoken plain number text so_far' NoMemory same_number same_text gives = tt
 
--- nothing is left where nothing is ahead
-left-none : (held : List ℕ) (left : Option (List ℕ)) → IfSome (option_map (λ bytes. held ++ bytes) left) (λ bytes. bytes ≡ []) → IfSome left (λ bytes. bytes ≡ [])
-left-none held None none = tt
-left-none [] (Some bytes) none = none
-left-none (byte ∷ held) (Some bytes) none = absurd (cc)
-
-pub ahead-none : (now : NumberedValue) (left : Option (List ℕ)) → IfSome (unread now left) (λ bytes. bytes ≡ []) → IfSome left (λ bytes. bytes ≡ [])
-ahead-none now left none = left-none now.held left none
-
--- nor behind a line that no line feed ended
-pub last-none : (was now : NumberedValue) (left left_now : Option (List ℕ)) → (told was left ≡ None → told now left_now ≡ None) →
-    IfSome (unread was left) (λ bytes. IsNextLine was.count bytes (unread now left_now) now) → now.is_ended ≡ false → IfSome left_now (λ bytes. bytes ≡ [])
-last-none was now None None untold line last = tt
-last-none was now None (Some bytes) untold line last = absurd (let e = untold refl in cc)
-last-none was now (Some bytes) left_now untold line last =
-    ahead-none now left_now (rw line.rest (cut-none (was.held ++ bytes) (sym line.ended ∙ last)))
-
 pub not-last : (last ended : Bool) → last ≡ not ended → not last ≡ ended
 not-last last true is = rw is refl
 not-last last false is = rw is refl
-
--- what is told afterwards is told before
-pub told-later : (texts : List NumberedText) (before after : Option ToldLines) → before ≡ option_map (behind_texts texts) after → before ≡ None → after ≡ None
-told-later texts before None is none = refl
-told-later texts before (Some told) is none = absurd (cc)

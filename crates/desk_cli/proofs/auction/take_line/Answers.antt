@@ -1,48 +1,44 @@
 use Rattle.std.proofs.Common.{◌≡◌, ◌∙◌, ◌∷◌, [], Bool, true, false, Ok, Err, ap, sym}
 use Rattle.std.proofs.lemmas.Result.{err_from_is_err_and}
-use Rattle.desk_cli.proofs.Turns.{goes, spoken, ends-there, cut-off, taken-spoken, taken-skipped, ahead-none, last-none, not-last, told-later}
+use Rattle.desk_io.proofs.ReadSoFar.{step-last}
+use Rattle.desk_cli.proofs.Turns.{goes, spoken, ends-there, cut-off, taken-spoken, taken-skipped, not-last}
 use Rattle.desk_cli.proofs.auction.take_line.Goals as goal
 
 pub returns-in_err-take-in-Text-clause-goes : goal.returns-in_err-take-in-Text-clause-goes
 returns-in_err-take-in-Text-clause-goes g c = λ whole reading.
     let p = err_from_is_err_and c.from_residual.result c.from_residual.ensures.1 in
     rw (p.1, p.2) (spoken whole c.args.lines.now (g.S.Source.source c.args.input.now).left c.args.reading.now reading c.next.new.self (g.S.Source.source c.next.new.source).left
-    (record { line = c.in-Text.ensures.line; counted = c.in-Text.ensures.count }) c.in-Text.ensures.passed c.number.result c.text.result.now c.take.new.self c.in_err-take-in-Text.field-0.0
+    c.in-Text.ensures.line c.in-Text.ensures.passed c.number.result c.text.result.now c.take.new.self c.in_err-take-in-Text.field-0.0
     c.number.ensures c.text.ensures c.in_err-take-in-Text.ensures)
 
 pub returns-in_ok-take-in-Text-clause-goes : goal.returns-in_ok-take-in-Text-clause-goes
 returns-in_ok-take-in-Text-clause-goes g c = λ whole reading.
     goes whole c.args.lines.now (g.S.Source.source c.args.input.now).left c.args.reading.now reading c.next.new.self (g.S.Source.source c.next.new.source).left
-    (record { line = c.in-Text.ensures.line; counted = c.in-Text.ensures.count }) c.take.new.self _
+    c.in-Text.ensures.line c.take.new.self _
     (not-last c.is_last.result c.next.new.self.is_ended c.is_last.ensures)
     (taken-spoken reading.texts c.args.reading.now reading.taken c.next.new.self.count c.next.new.self.text c.in-Text.ensures.passed
     ∙ (rw (c.number.ensures, c.text.ensures) at c.in_ok-take-in-Text.ensures))
 
 pub returns-in_ok-take-in-Text-clause-all_read : goal.returns-in_ok-take-in-Text-clause-all_read
 returns-in_ok-take-in-Text-clause-all_read g c = λ is.
-    last-none c.args.lines.now c.next.new.self (g.S.Source.source c.args.input.now).left (g.S.Source.source c.next.new.source).left
-    (told-later (record { number = c.next.new.self.count; text = c.next.new.self.text } ∷ []) _ _ c.in-Text.ensures.told) c.in-Text.ensures.line
+    step-last c.args.lines.now c.next.new.self (g.S.Source.source c.args.input.now).left (g.S.Source.source c.next.new.source).left c.in-Text.ensures.line
     (sym (not-last c.is_last.result c.next.new.self.is_ended c.is_last.ensures) ∙ (let e = is in cc))
 
 pub returns-in-Skipped-clause-goes : goal.returns-in-Skipped-clause-goes
 returns-in-Skipped-clause-goes g c = λ whole reading.
     goes whole c.args.lines.now (g.S.Source.source c.args.input.now).left c.args.reading.now reading c.next.new.self (g.S.Source.source c.next.new.source).left
-    (record { line = c.in-Skipped.ensures.line; counted = c.in-Skipped.ensures.count }) c.args.reading.now _
+    c.in-Skipped.ensures.line c.args.reading.now _
     (not-last c.is_last-in-Skipped.result c.next.new.self.is_ended c.is_last-in-Skipped.ensures)
     (taken-skipped reading.texts c.args.reading.now reading.taken c.next.new.self.count c.next.new.self.text c.in-Skipped.ensures.passed)
 
 pub returns-in-Skipped-clause-all_read : goal.returns-in-Skipped-clause-all_read
 returns-in-Skipped-clause-all_read g c = λ is.
-    last-none c.args.lines.now c.next.new.self (g.S.Source.source c.args.input.now).left (g.S.Source.source c.next.new.source).left
-    (λ none. sym c.in-Skipped.ensures.told ∙ none) c.in-Skipped.ensures.line
+    step-last c.args.lines.now c.next.new.self (g.S.Source.source c.args.input.now).left (g.S.Source.source c.next.new.source).left c.in-Skipped.ensures.line
     (sym (not-last c.is_last-in-Skipped.result c.next.new.self.is_ended c.is_last-in-Skipped.ensures) ∙ (let e = is in cc))
 
 pub returns-in-End-clause-goes : goal.returns-in-End-clause-goes
 returns-in-End-clause-goes g c = λ whole reading.
     ends-there whole c.args.lines.now (g.S.Source.source c.args.input.now).left c.args.reading.now reading (Ok c.next.new.self.count) c.in-End.ensures.told
-
-pub returns-in-End-clause-all_read : goal.returns-in-End-clause-all_read
-returns-in-End-clause-all_read g c = λ is. ahead-none c.next.new.self (g.S.Source.source c.next.new.source).left c.in-End.ensures.line
 
 pub returns-in-Fault-clause-goes : goal.returns-in-Fault-clause-goes
 returns-in-Fault-clause-goes g c = λ whole reading.

@@ -2,4 +2,4 @@ use Rattle.desk_cli.proofs.Throughout.{holds_throughout}
 use Rattle.desk_cli.proofs.script.serve_script.Goals as goal
 
 pub returns-clause-throughout : goal.returns-clause-throughout
-returns-clause-throughout g c = holds_throughout c.end.result
+returns-clause-throughout g c = holds_throughout c.end-desk.result

@@ -120,8 +120,9 @@ fn answer(ledger: &mut Ledger, journal: &mut Journal, call: &Call) -> Result<Rep
     match planned {
         Ok(plan) => {
             ledger.make_room(&plan.changes)?;
+            let reply = ledger.reply(plan.told);
             ledger.accept(call, plan.changes);
-            Ok(plan.reply)
+            Ok(reply)
         }
         Err(Stop::Refused(refusal)) => Ok(Reply::Refused(refusal)),
         Err(Stop::NoMemory) => Err(AllocError),

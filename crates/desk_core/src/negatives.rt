@@ -10,10 +10,10 @@ ghost use Rattle.desk_core.specs.Planned.{IsFirst, IsPlanned, IsStop, listed};
 
 use crate::finds::{count_negatives, has_live_negative};
 use crate::ledger::Ledger;
-use crate::plan::{Changes, Plan};
+use crate::plan::{Changes, Plan, Told};
 use crate::stop::{Stop, when};
 use desk_types::limits::NEGATIVES_MAX;
-use desk_types::{Change, Negative, Refusal, Reply};
+use desk_types::{Change, Negative, Refusal};
 use match_types::Pattern;
 use query_words::{NoMemory, Text, Twin};
 
@@ -31,7 +31,7 @@ impl Ledger {
         )?;
         Ok(Plan {
             changes: self.drop_of(account, negative)?,
-            reply: Reply::Done,
+            told: Told::Done,
         })
     }
 
@@ -76,7 +76,7 @@ impl Ledger {
         let negative = self.negative_made(account, campaign, pattern)?;
         let number = negative.number;
         let alloc = *self.negatives.allocator();
-        Ok(Plan::one(alloc, Change::PutNegative(negative), Reply::Made(number))?)
+        Ok(Plan::one(alloc, Change::PutNegative(negative), Told::Made(number))?)
     }
 
     /// The row of a negative that an account asks for in a campaign that is there, or why it is refused.

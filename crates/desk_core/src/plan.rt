@@ -3,7 +3,7 @@
 ghost use Rattle.std.specs.Prelude.{◌≡◌, [], ◌∷◌, IfOk};
 ghost use Rattle.desk_core.specs.Planned.{listed};
 
-use desk_types::{Change, Fate, Reply};
+use desk_types::{Change, Fate, Spot};
 use query_words::List;
 use std::alloc::{AllocError, Global};
 
@@ -13,7 +13,25 @@ pub struct Plan {
     /// The changes.
     pub changes: Changes,
     /// The reply.
-    pub reply: Reply,
+    pub told: Told,
+}
+
+/// The reply to an accepted call. A link is told by its line, so that it is copied into the answer alone.
+#[derive(Drop)]
+pub enum Told {
+    /// A thing was made, of this number.
+    Made(u64),
+    /// It was done.
+    Done,
+    /// The page.
+    Page(List<Spot>),
+    /// The click goes to the link of this line.
+    Link {
+        /// The account's number.
+        account: u64,
+        /// The line's number within the account.
+        line: u64,
+    },
 }
 
 /// Changes to the rows, in order. None and a fate take no memory.
@@ -34,13 +52,13 @@ pub enum Changes {
 
 impl Plan {
     /// One change.
-    pub fn one(alloc: Global, change: Change, reply: Reply) -> Result<Plan, AllocError>
+    pub fn one(alloc: Global, change: Change, told: Told) -> Result<Plan, AllocError>
         ensures changes { IfOk result (λ plan. listed plan.changes ≡ change ∷ []) }
-        ensures reply { IfOk result (λ plan. plan.reply ≡ reply) }
+        ensures told { IfOk result (λ plan. plan.told ≡ told) }
     {
         Ok(Plan {
             changes: Changes::one(alloc, change)?,
-            reply,
+            told,
         })
     }
 }

@@ -119,10 +119,10 @@ impl NumberedLines {
         ensures { result ≡ (if nat_le INPUT_LINES_MAX self.now.count then LineFault.TooManyLines
             else LineFault.LongLine (self.now.count + 1)) }
     {
-        if self.count == INPUT_LINES_MAX {
-            LineFault::TooManyLines
-        } else {
+        if self.count < INPUT_LINES_MAX {
             LineFault::LongLine(self.count + 1)
+        } else {
+            LineFault::TooManyLines
         }
     }
 

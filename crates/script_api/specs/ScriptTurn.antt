@@ -28,7 +28,7 @@ pub record AreCallsServed (start : ScriptState) (now : Midway) (calls : List (â„
   pub results : List (Result Reply Fault)
   pub served : AreServed start.service calls results now.at.service
   pub puts :
-    Puts {T = Unit {0}} {E = WriteFault}
+      Puts {T = Unit {0}} {E = WriteFault}
       start.sink now.at.sink [] now.waiting (flat_map answer_line results) (Ok tt)
   pub read_faults : start.source.faults â‰¤ now.at.source.faults
 

@@ -9,5 +9,6 @@ pub mod Placing
 pub mod Reached
 pub mod Searching
 pub mod Tables
+pub mod Telling
 pub mod Places
 pub mod Rooms

@@ -6,3 +6,4 @@ pub mod PatternStop
 pub mod Planned
 pub mod Shown
 pub mod SoloValue
+pub mod Told

@@ -7,8 +7,9 @@ ghost use Rattle.desk_core.specs.Planned.{IsFirst, IsPlanned, IsStop};
 
 use crate::finds::{count_campaigns, fits_key, lacks_account, lacks_campaign};
 use crate::ledger::Ledger;
-use crate::plan::{Changes, Plan, Told};
+use crate::plan::{Changes, Plan};
 use crate::stop::{Stop, when};
+use crate::told::Told;
 use desk_types::limits::{ACCOUNTS_MAX, BUDGET_MAX, BUDGET_MIN, CAMPAIGNS_MAX};
 use desk_types::{Account, BudgetSet, Campaign, Change, Field, Refusal, is_key};
 use query_words::{List, Text, Twin};

@@ -6,13 +6,14 @@ ghost use Rattle.desk_types.specs.declared.call.Call.{Call};
 ghost use Rattle.desk_types.specs.Changes.{settlement};
 ghost use Rattle.desk_types.specs.Sound.{IsSound};
 ghost use Rattle.desk_types.specs.Tables.{placement_of};
-ghost use Rattle.desk_core.specs.Planned.{IsPlanned, IsStop, IsThere, listed, replied};
+ghost use Rattle.desk_core.specs.Planned.{IsPlanned, IsStop, listed};
 
 use crate::ledger::Ledger;
 use crate::money::is_escrowed;
-use crate::plan::{Changes, Plan, Told};
+use crate::plan::{Changes, Plan};
 use crate::stop::Stop;
-use desk_types::{Fate, Placement, Refusal, Reply};
+use crate::told::Told;
+use desk_types::{Fate, Placement, Refusal};
 
 impl Ledger {
     /// Plans a click on the placement of this number: it settles where the price is escrowed, and goes to the line's
@@ -34,21 +35,6 @@ impl Ledger {
                 line: found.line,
             },
         })
-    }
-
-    /// The reply that is told. It takes no memory.
-    pub(crate) fn reply(&self, told: Told) -> Reply
-        requires { IsThere self.now.state.tables told }
-        ensures { result ≡ replied self.now.state.tables told }
-    {
-        match told {
-            Told::Made(number) => Reply::Made(number),
-            Told::Done => Reply::Done,
-            Told::Page(spots) => Reply::Page(spots),
-            Told::Link { account, line } => {
-                Reply::Went(self.line_there(account, line).link.copy())
-            }
-        }
     }
 
     /// The placement of this number, if there is one.

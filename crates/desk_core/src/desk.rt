@@ -9,10 +9,12 @@ ghost use Rattle.desk_types.specs.Serving.{HasNoFault, IsSureResult};
 ghost use Rattle.desk_types.specs.Sound.{IsSound};
 ghost use Rattle.desk_types.specs.Step.{answered};
 ghost use Rattle.desk_core.specs.DeskValue.{Answers};
+ghost use Rattle.desk_core.specs.Told.{IsThere, replied};
 
 use crate::journal::Journal;
 use crate::ledger::Ledger;
 use crate::stop::Stop;
+use crate::told::Told;
 use desk_types::{Call, Entry, Fault, Reply, Settings};
 use std::alloc::{AllocError, Global};
 use std::marker::Model;
@@ -70,12 +72,12 @@ impl Desk {
             return Err(fault);
         }
         let before = self.ledger.go_to(moment);
-        let Ok(reply) = answer(&mut self.ledger, &mut self.journal, &call) else {
+        let Ok(told) = answer(&mut self.ledger, &mut self.journal, &call) else {
             self.ledger.go_back(before);
             return Err(Fault::NoMemory);
         };
         self.journal.put(caller, moment, call);
-        Ok(reply)
+        Ok(self.ledger.reply(told))
     }
 
     /// Makes room for so many further entries of the journal. Nothing else changes, and nothing at all
@@ -101,13 +103,14 @@ impl Desk {
 
 /// Answers a call at the moment that the rows have, and makes room for its entry. Where memory is wanted, the rows and
 /// the entries are as they were.
-fn answer(ledger: &mut Ledger, journal: &mut Journal, call: &Call) -> Result<Reply, AllocError>
+fn answer(ledger: &mut Ledger, journal: &mut Journal, call: &Call) -> Result<Told, AllocError>
     requires sound { IsSound ledger.old.state }
     requires edition { ledger.old.state.edition < 2 ^ 64 - 1 }
     ensures state { let S = ledger.old.state in
         OnOk result (ledger.new.state ≡ (answered S call.now (judged S call.now)).state) }
     ensures reply { let S = ledger.old.state in
-        IfOk result (λ reply. reply ≡ (answered S call.now (judged S call.now)).reply) }
+        IfOk result (λ told. replied ledger.new.state.tables told ≡ (answered S call.now (judged S call.now)).reply) }
+    ensures there { IfOk result (IsThere ledger.new.state.tables) }
     ensures same { OnErr result (ledger.new.state ≡ ledger.old.state) }
     ensures room { OnOk result (1 ≤ journal.new.spare) }
     ensures spare { journal.old.spare ≤ journal.new.spare }
@@ -120,11 +123,10 @@ fn answer(ledger: &mut Ledger, journal: &mut Journal, call: &Call) -> Result<Rep
     match planned {
         Ok(plan) => {
             ledger.make_room(&plan.changes)?;
-            let reply = ledger.reply(plan.told);
             ledger.accept(call, plan.changes);
-            Ok(reply)
+            Ok(plan.told)
         }
-        Err(Stop::Refused(refusal)) => Ok(Reply::Refused(refusal)),
+        Err(Stop::Refused(refusal)) => Ok(Told::Refused(refusal)),
         Err(Stop::NoMemory) => Err(AllocError),
     }
 }

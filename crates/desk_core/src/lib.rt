@@ -22,6 +22,7 @@ mod search;
 mod showing;
 mod solo;
 mod stop;
+mod told;
 
 pub use desk::Desk;
 pub use solo::Solo;

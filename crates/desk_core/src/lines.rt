@@ -8,8 +8,9 @@ ghost use Rattle.desk_core.specs.Planned.{IsFirst, IsPlanned, IsStop};
 
 use crate::finds::count_lines;
 use crate::ledger::Ledger;
-use crate::plan::{Plan, Told};
+use crate::plan::Plan;
 use crate::stop::{Stop, when};
+use crate::told::Told;
 use desk_types::limits::{BID_MAX, BID_MIN, LINES_MAX, QUALITY_NEW};
 use desk_types::{Change, Field, Line, LinkText, Refusal, is_headline};
 use match_types::Pattern;

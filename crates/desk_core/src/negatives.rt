@@ -10,8 +10,9 @@ ghost use Rattle.desk_core.specs.Planned.{IsFirst, IsPlanned, IsStop, listed};
 
 use crate::finds::{count_negatives, has_live_negative};
 use crate::ledger::Ledger;
-use crate::plan::{Changes, Plan, Told};
+use crate::plan::{Changes, Plan};
 use crate::stop::{Stop, when};
+use crate::told::Told;
 use desk_types::limits::NEGATIVES_MAX;
 use desk_types::{Change, Negative, Refusal};
 use match_types::Pattern;

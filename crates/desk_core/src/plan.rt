@@ -3,7 +3,8 @@
 ghost use Rattle.std.specs.Prelude.{◌≡◌, [], ◌∷◌, IfOk};
 ghost use Rattle.desk_core.specs.Planned.{listed};
 
-use desk_types::{Change, Fate, Spot};
+use crate::told::Told;
+use desk_types::{Change, Fate};
 use query_words::List;
 use std::alloc::{AllocError, Global};
 
@@ -14,24 +15,6 @@ pub struct Plan {
     pub changes: Changes,
     /// The reply.
     pub told: Told,
-}
-
-/// The reply to an accepted call. A link is told by its line, so that it is copied into the answer alone.
-#[derive(Drop)]
-pub enum Told {
-    /// A thing was made, of this number.
-    Made(u64),
-    /// It was done.
-    Done,
-    /// The page.
-    Page(List<Spot>),
-    /// The click goes to the link of this line.
-    Link {
-        /// The account's number.
-        account: u64,
-        /// The line's number within the account.
-        line: u64,
-    },
 }
 
 /// Changes to the rows, in order. None and a fate take no memory.

@@ -14,8 +14,9 @@ ghost use Rattle.desk_core.specs.Planned.{IsPlanned, IsStop};
 ghost use Rattle.desk_core.specs.Shown.{HasLine};
 
 use crate::ledger::Ledger;
-use crate::plan::{Changes, Plan, Told};
+use crate::plan::{Changes, Plan};
 use crate::stop::Stop;
+use crate::told::Told;
 use arrayvec::ArrayVec;
 use desk_types::limits::PLACES_MAX;
 use desk_types::{Call, Change, Field, Placement, Refusal};

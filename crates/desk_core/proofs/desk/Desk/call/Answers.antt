@@ -34,9 +34,9 @@ returns-clause-answers c =
     let before = c.self.inside.journal in
     let room : is_full before.settings before.entries c.args.call ≡ false = c.in_default.ensures.full in
     let stepped = step_from S c.go_to-before.new.self.state c.args.moment c.args.call c.go_to-before.ensures.state in
-    subst (λ (d : DeskValue). Answers c.args.caller d c.args.moment c.args.call (Ok c.in-Ok.reply) (record { settings = c.put.new.self.settings; log = c.put.new.self.entries; spare = c.put.new.self.spare })) c.self.view_is
-    (answers_ok S c.answer.new.ledger.state before c.put.new.self c.args.caller c.args.moment c.args.call c.in-Ok.reply c.self.invariant room
-    (c.in-Ok.ensures.reply ∙ ap (λ (r : Reached). r.reply) stepped)
+    subst (λ (d : DeskValue). Answers c.args.caller d c.args.moment c.args.call (Ok c.reply.result) (record { settings = c.put.new.self.settings; log = c.put.new.self.entries; spare = c.put.new.self.spare })) c.self.view_is
+    (answers_ok S c.answer.new.ledger.state before c.put.new.self c.args.caller c.args.moment c.args.call c.reply.result c.self.invariant room
+    (c.reply.ensures ∙ c.in-Ok.ensures.reply ∙ ap (λ (r : Reached). r.reply) stepped)
     (c.in-Ok.ensures.state ∙ ap (λ (r : Reached). r.state) stepped)
     (c.put.ensures.settings ∙ c.answer.ensures.settings)
     (c.put.ensures.entries ∙ ap (λ es. with_entry c.args.caller es c.args.moment c.args.call Answered) c.answer.ensures.entries))

@@ -9,7 +9,7 @@ use Rattle.desk_types.specs.Judged.{first, refusals, when}
 use Rattle.desk_types.specs.State.{State}
 use Rattle.desk_types.specs.Tables.{placement_of}
 use Rattle.desk_core.specs.declared.plan.Changes.{Changes}
-use Rattle.desk_core.specs.declared.plan.Told.TheVariants.{Link}
+use Rattle.desk_core.specs.declared.told.Told.TheVariants.{Link}
 use Rattle.desk_core.specs.LedgerValue.{LedgerValue}
 use Rattle.desk_core.specs.Planned.{IsPlanned, listed}
 use Rattle.desk_core.specs.Shown.{HasLine}

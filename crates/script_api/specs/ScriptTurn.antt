@@ -1,5 +1,5 @@
 -- A script on its way: what was read, served and put so far.
-use Rattle.std.specs.Prelude.{◌≡◌, ◌≢◌, ℕ, ◌≤◌, true, false, List, [], ◌++◌, flat_map, Option, Some, None, IfSome, Result, Ok, Err}
+use Rattle.std.specs.Prelude.{◌≡◌, ◌≢◌, ℕ, ◌≤◌, false, List, [], ◌++◌, flat_map, Option, Some, None, IfSome, Result, Ok, Err}
 use Rattle.desk_types.specs.declared.call.Call.{Call}
 use Rattle.desk_types.specs.declared.entry.Fault.{Fault}
 use Rattle.desk_types.specs.declared.reply.Reply.{Reply}
@@ -28,7 +28,7 @@ pub record AreCallsServed (start : ScriptState) (now : Midway) (calls : List (�
   pub results : List (Result Reply Fault)
   pub served : AreServed start.service calls results now.at.service
   pub puts :
-    Puts {T = Unit {0}} {E = WriteFault}
+      Puts {T = Unit {0}} {E = WriteFault}
       start.sink now.at.sink [] now.waiting (flat_map answer_line results) (Ok tt)
   pub read_faults : start.source.faults ≤ now.at.source.faults
 

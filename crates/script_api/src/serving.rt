@@ -28,10 +28,8 @@ pub struct LineServing {
 impl LineServing {
     /// Before the first line.
     pub fn new(alloc: Global) -> Result<LineServing, NoMemory>
-        ensures lines {
-            IfOk result
-                (λ serving. serving.lines ≡ record { count = 0; held = []; text = []; is_ended = true })
-        }
+        ensures lines { IfOk result
+            (λ serving. serving.lines ≡ record { count = 0; held = []; text = []; is_ended = true }) }
         ensures waiting { IfOk result (λ serving. serving.answers ≡ []) }
     {
         Ok(LineServing {

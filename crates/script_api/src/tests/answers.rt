@@ -18,7 +18,10 @@ fn check_line(
     let alloc = rt.alloc();
     let mut sink = MemSink::new(alloc, 1_000, 1_000, Vec::new(alloc))?;
     let mut out = OutBuf::new(alloc)?;
-    assert!(rt; put_answer_line(&mut out, &mut sink, &answer).is_ok(), "{line}");
+    assert!(rt;
+        put_answer_line(&mut out, &mut sink, &answer).is_ok(),
+        "{line}"
+    );
     assert!(rt; out.flush(&mut sink).is_ok(), "{line}");
     assert_eq!(rt; sink.bytes(), line.as_bytes(), "{line}");
     Ok(())

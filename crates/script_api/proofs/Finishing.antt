@@ -1,7 +1,6 @@
 -- The start and the end of a script.
-use Rattle.std.proofs.Common.{◌≡◌, ◌≢◌, ℕ, ◌≤◌, ◌<◌, ◌^◌, true, List, [], ◌++◌, Option, Some, None, IfSome, Result, Ok, Err, IsErr, refl, sym, ap, subst, append-nil, arith}
+use Rattle.std.proofs.Common.{◌≡◌, ◌≢◌, ℕ, ◌<◌, ◌^◌, true, List, [], ◌++◌, Option, Some, None, IfSome, Ok, Err, refl, sym, ap, subst, arith}
 use Rattle.std.specs.Prelude.{flat_map}
-use Rattle.std.specs.Option.{option_map}
 use Rattle.desk_types.specs.Journal.{IsLegal}
 use Rattle.desk_types.specs.Serving.{ServiceView}
 use Rattle.desk_types.proofs.ServedInTurn.{AreServed-none}

@@ -1,5 +1,5 @@
 -- What a script spells, by the texts that its bytes tell.
-use Rattle.std.proofs.Common.{◌≡◌, ℕ, List, [], ◌∷◌, ◌++◌, Option, Some, None, Result, refl, sym, ap, ◌∙◌, append_assoc, append-nil}
+use Rattle.std.proofs.Common.{◌≡◌, ℕ, List, [], ◌∷◌, ◌++◌, Some, None, Result, refl, sym, ap, ◌∙◌, append_assoc, append-nil}
 use Rattle.desk_types.specs.declared.call.Call.{Call}
 use Rattle.desk_io.specs.Lines.{lines}
 use Rattle.desk_io.specs.NumberedLines.{NumberedText, ToldLines, behind_texts, lines_told}

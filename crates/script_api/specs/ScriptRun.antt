@@ -13,7 +13,7 @@ use Rattle.desk_io.specs.Writing.{Appends}
 use Rattle.script_api.specs.declared.ending.ScriptEnd.{ScriptEnd}
 use Rattle.script_api.specs.declared.ending.ScriptEnd.TheVariants.{Ended, BadLine, LongLine, TooManyLines, NotBuilt, ReadFault, WriteFault, NoMemory}
 use Rattle.script_api.specs.ReplyLine.{answer_line}
-use Rattle.script_api.specs.ScriptValue.{ScriptValue, script_of}
+use Rattle.script_api.specs.ScriptValue.{script_of}
 
 -- what ended a script: its bytes, a read that failed, a write that failed, or want of memory
 pub data EndKind : Type 0 where

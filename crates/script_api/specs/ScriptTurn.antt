@@ -1,5 +1,5 @@
 -- A script on its way: what was read, served and put so far.
-use Rattle.std.specs.Prelude.{◌≡◌, ◌≢◌, ℕ, ◌≤◌, true, false, List, [], ◌++◌, flat_map, Option, Some, None, IfSome, Result, Ok, Err}
+use Rattle.std.specs.Prelude.{◌≡◌, ◌≢◌, ℕ, ◌≤◌, false, List, [], ◌++◌, flat_map, Option, Some, None, IfSome, Result, Ok, Err}
 use Rattle.desk_types.specs.declared.call.Call.{Call}
 use Rattle.desk_types.specs.declared.entry.Fault.{Fault}
 use Rattle.desk_types.specs.declared.reply.Reply.{Reply}

@@ -1,4 +1,3 @@
-use Rattle.std.proofs.Common.{◌≡◌, refl}
 use Rattle.desk_types.proofs.ServedInTurn.{AreServed-stays}
 use Rattle.script_api.proofs.Finishing.{run-none}
 use Rattle.script_api.proofs.run.script.Goals as goal

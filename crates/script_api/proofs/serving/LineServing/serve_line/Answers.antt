@@ -1,7 +1,7 @@
-use Rattle.std.proofs.Common.{◌≡◌, ◌≢◌, ◌∙◌, Ok, Err, refl, sym, ap, subst}
+use Rattle.std.proofs.Common.{Ok, Err, sym, subst}
 use Rattle.std.proofs.lemmas.Result.{err_from_is_err_and}
 use Rattle.script_api.specs.ScriptRun.{script_at}
-use Rattle.script_api.specs.ScriptTurn.{midway, Goes, IsEnding}
+use Rattle.script_api.specs.ScriptTurn.{midway, Goes}
 use Rattle.script_api.proofs.Turning.{turn-flushed, turn-unflushed, turn-text, turn-told, turn-cut, turn-skipped, not-ended}
 use Rattle.script_api.proofs.serving.LineServing.serve_line.Goals as goal
 

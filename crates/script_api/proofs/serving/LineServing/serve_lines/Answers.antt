@@ -1,4 +1,4 @@
-use Rattle.std.proofs.Common.{◌≡◌, refl}
+use Rattle.std.proofs.Common.{refl}
 use Rattle.std.proofs.lemmas.Result.{err_from_is_err_and}
 use Rattle.script_api.specs.ScriptRun.{script_at}
 use Rattle.script_api.proofs.Finishing.{so_far-none, ends-flushed, ends-unflushed}

@@ -1,4 +1,4 @@
-use Rattle.std.proofs.Common.{◌≡◌, ◌≢◌, ◌∙◌, Ok, refl, sym, ap, subst}
+use Rattle.std.proofs.Common.{◌≡◌, ◌∙◌, Ok, refl, sym, ap, subst}
 use Rattle.std.proofs.lemmas.Result.{err_from_is_err_and}
 use Rattle.script_api.specs.declared.line.ScriptLine.TheVariants.{Timed, NotBuilt, Bad}
 use Rattle.script_api.specs.declared.ending.ScriptEnd.TheVariants as end

@@ -130,9 +130,8 @@ pub written-first : (auction : AuctionValue) (k : ℕ) → (rest : List ℕ) × 
 unfolding written auction_page_text
 written-first auction k =
     let ads : List AdValue = page (entrants auction.ads) auction.heading.places in
-    let text : AdValue → List ℕ = entrant_text auction in
-    (
+    let text : AdValue → List ℕ = entrant_text auction in (
       flat_map text (drop k ads) ++ codes "end\n",
       sym (append_assoc (flat_map text (take k ads)) (flat_map text (drop k ads)) (codes "end\n"))
-      ∙ ap (λ bytes. bytes ++ codes "end\n") (sym (flat_map-append text (take k ads) (drop k ads)) ∙ ap (flat_map text) (take-append-drop k ads)),
+          ∙ ap (λ bytes. bytes ++ codes "end\n") (sym (flat_map-append text (take k ads) (drop k ads)) ∙ ap (flat_map text) (take-append-drop k ads)),
     )

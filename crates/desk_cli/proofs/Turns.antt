@@ -99,7 +99,6 @@ module _ (whole : Option (List ℕ)) (was : NumberedValue) (left : Option (List 
         each (Some bytes) cut = record { texts = reading.texts; so_far = so_far; cut_off = cut; no_fault = reading.taken }
 
     module _ (step : IsStep was now left left_now) where
-
       -- the line went on, and a line feed ended it, or the end
       pub goes : (so_far' : SoFar) (more : Bool) → more ≡ now.is_ended → take_texts nothing_yet (reading.texts ++ texts_of now.count now.text) ≡ Ok so_far' → Goes whole now left_now so_far' (Ok more)
       goes so_far' true ended taken = record { texts = reading.texts ++ texts_of now.count now.text; read = read-line reading.texts was now left left_now step whole reading.read (sym ended); taken = taken }

@@ -24,7 +24,7 @@ abbrev pub heading_of_fields : List (List ℕ) → Option HeadingValue
 heading_of_fields (word ∷ reserve ∷ floor ∷ places ∷ []) =
     if bytes_eq word (codes "auction")
     then heading_from (number_within BID_MIN BID_MAX reserve) (number_within 0 FLOOR_MAX floor)
-        (number_within 1 PLACES_MAX places)
+    (number_within 1 PLACES_MAX places)
     else None
 heading_of_fields _ = None
 
@@ -66,7 +66,7 @@ abbrev pub ad_of_fields : List (List ℕ) → Option AdLine
 ad_of_fields (word ∷ name ∷ bid ∷ quality ∷ free ∷ []) =
     if bytes_eq word (codes "ad")
     then ad_from (name_in name) (number_within BID_MIN BID_MAX bid) (number_within QUALITY_MIN QUALITY_MAX quality)
-        (number_within 0 FREE_MAX free)
+    (number_within 0 FREE_MAX free)
     else None
 ad_of_fields _ = None
 

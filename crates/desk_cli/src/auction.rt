@@ -22,9 +22,7 @@ pub struct Auction {
 
 /// Reads an auction to the end of the input or to the first line with a fault.
 pub fn read_auction<S: Source>(alloc: Global, input: &mut S) -> Result<Auction, ReadEnd>
-    ensures spelled {
-        IfOk result (λ auction. IfSome (S.source input.old).left (λ bytes. auction_in bytes ≡ Ok (auction_value auction)))
-    }
+    ensures spelled { IfOk result (λ auction. IfSome (S.source input.old).left (λ bytes. auction_in bytes ≡ Ok (auction_value auction))) }
     ensures ended { IfErr result (EndsBy (S.source input.old).left (S.source input.new).left) }
     ensures meets { IfOk result (λ auction. All (MeetsHeading auction.heading) auction.ads.items) }
     ensures all_read { OnOk result (IfSome (S.source input.new).left (λ bytes. bytes ≡ [])) }
@@ -69,10 +67,8 @@ fn take_line<S: Source>(
     reading: &mut AuctionReading,
     input: &mut S,
 ) -> Result<bool, ReadEnd>
-    ensures goes {
-        (whole : Option (List ℕ)) → IsReading whole lines.old (S.source input.old).left reading.old
-        → Goes whole lines.new (S.source input.new).left reading.new result
-    }
+    ensures goes { (whole : Option (List ℕ)) → IsReading whole lines.old (S.source input.old).left reading.old
+        → Goes whole lines.new (S.source input.new).left reading.new result }
     ensures counts { result ≡ Ok true → lines.old.count < lines.new.count }
     ensures within { lines.new.count ≤ INPUT_LINES_MAX }
     ensures all_read { result ≡ Ok false → IfSome (S.source input.new).left (λ bytes. bytes ≡ []) }

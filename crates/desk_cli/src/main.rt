@@ -25,7 +25,9 @@ use std::{env, io};
 fn main(rt: HostRuntime) -> ExitCode {
     let words = match words_of(&rt) {
         Ok(words) => words,
-        Err(error) if error.kind() == io::ErrorKind::OutOfMemory => return ExitCode::from(status::NO_MEMORY),
+        Err(error) if error.kind() == io::ErrorKind::OutOfMemory => return ExitCode::from(
+            status::NO_MEMORY,
+        ),
         Err(_) => Vec::new(rt.alloc()),
     };
     let mut input = StdSource::new(rt.stdin());

@@ -132,9 +132,7 @@ fn note_name(names: &mut IndexSet<LineName>, name: LineName, number: u64) -> Res
 
 /// Puts an ad behind the earlier ones where it is eligible; else it is left out.
 fn keep(eligible: &mut Vec<Ad>, heading: &Heading, line: &AdLine) -> Result<(), ReadEnd>
-    ensures kept {
-        OnOk result (eligible.new.items ≡ eligible.old.items ++ kept_ads (is_eligible_under heading.now line.now) line.now)
-    }
+    ensures kept { OnOk result (eligible.new.items ≡ eligible.old.items ++ kept_ads (is_eligible_under heading.now line.now) line.now) }
     ensures same { OnErr result (eligible.new.items ≡ eligible.old.items) }
     ensures ended { IfErr result (λ end. end ≡ ReadEnd.NoMemory) }
 {

@@ -12,9 +12,7 @@ use std::alloc::Global;
 
 /// Writes a text by its pieces and answers the status; 4 where a write failed, and 5 for want of memory.
 pub fn say<T: Sink>(alloc: Global, output: &mut T, pieces: &[Piece], status: u8) -> u8
-    ensures written {
-        IsWritten (T.sink output.old) (T.sink output.new) (record { text = text_of pieces.now; status = status }) result
-    }
+    ensures written { IsWritten (T.sink output.old) (T.sink output.new) (record { text = text_of pieces.now; status = status }) result }
     ensures faults { (T.sink output.old).faults ≤ (T.sink output.new).faults }
     ensures source_side { T.source_side output.new ≡ T.source_side output.old }
 {
@@ -48,17 +46,20 @@ pub fn say_fault<T: Sink>(alloc: Global, output: &mut T, fault: LineFault) -> u8
         LineFault::BadLine(number) => say_line(alloc, output, "bad line ", number, BAD_LINE),
         LineFault::LongLine(number) => say_line(alloc, output, "long line ", number, PAST_LIMIT),
         LineFault::TooManyLines => {
-            say(alloc, output, &[Piece::Text("too many lines\n")], PAST_LIMIT)
+            say(
+                alloc,
+                output,
+                &[Piece::Text("too many lines\n")],
+                PAST_LIMIT,
+            )
         }
     }
 }
 
 /// Says something of the numbered line.
 pub fn say_line<T: Sink>(alloc: Global, output: &mut T, words: &str, number: u64, status: u8) -> u8
-    ensures written {
-        IsWritten (T.sink output.old) (T.sink output.new)
-            (record { text = words.now ++ (decimal number ++ codes "\n"); status = status }) result
-    }
+    ensures written { IsWritten (T.sink output.old) (T.sink output.new)
+        (record { text = words.now ++ (decimal number ++ codes "\n"); status = status }) result }
     ensures faults { (T.sink output.old).faults ≤ (T.sink output.new).faults }
     ensures source_side { T.source_side output.new ≡ T.source_side output.old }
 {

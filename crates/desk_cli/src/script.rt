@@ -27,10 +27,8 @@ pub struct Served {
 pub fn serve_script<S: Source, T: Sink>(alloc: Global, input: &mut S, output: &mut T) -> (u8, Desk)
     ensures settings { result.1.settings ≡ usual }
     ensures own { AreOwn 1 result.1.log }
-    ensures served {
-        IsScriptServed (call_at (S.source input.old) (T.sink output.old))
-            (call_at (S.source input.new) (T.sink output.new)) result.1 result.0
-    }
+    ensures served { IsScriptServed (call_at (S.source input.old) (T.sink output.old))
+        (call_at (S.source input.new) (T.sink output.new)) result.1 result.0 }
     ensures no_fault { HasNoFault result.1.log }
     ensures throughout { HoldsThroughout result.1 }
     ensures all_read { result.0 ≡ ENDED → IfSome (S.source input.new).left (λ bytes. bytes ≡ []) }

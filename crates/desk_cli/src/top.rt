@@ -37,10 +37,8 @@ pub fn desk_top<S: Source, T: Sink>(
     input: &mut S,
     output: &mut T,
 ) -> Served
-    ensures ended {
-        CallEnds (map string_bytes words.now) (call_at (S.source input.old) (T.sink output.old))
-            (call_at (S.source input.new) (T.sink output.new)) result
-    }
+    ensures ended { CallEnds (map string_bytes words.now) (call_at (S.source input.old) (T.sink output.old))
+        (call_at (S.source input.new) (T.sink output.new)) result }
     ensures no_fault { IfSome result.desk (λ desk. HasNoFault desk.log) }
     ensures all_read { result.status ≡ ENDED → IfSome (S.source input.new).left (λ bytes. bytes ≡ []) }
     ensures read_faults { (S.source input.old).faults ≤ (S.source input.new).faults }
@@ -59,7 +57,12 @@ pub fn desk_top<S: Source, T: Sink>(
             desk: Some(desk),
         };
     }
-    let status = say(alloc, output, &[Piece::Text("words refused\n")], WORDS_REFUSED);
+    let status = say(
+        alloc,
+        output,
+        &[Piece::Text("words refused\n")],
+        WORDS_REFUSED,
+    );
     Served { status, desk: None }
 }
 
@@ -75,10 +78,8 @@ fn are_word(words: &[String], word: &str) -> bool
 
 /// Reads an auction and writes its page, or why there is none.
 fn serve_auction<S: Source, T: Sink>(alloc: Global, input: &mut S, output: &mut T) -> u8
-    ensures served {
-        IsAuctionServed (call_at (S.source input.old) (T.sink output.old))
-            (call_at (S.source input.new) (T.sink output.new)) result
-    }
+    ensures served { IsAuctionServed (call_at (S.source input.old) (T.sink output.old))
+        (call_at (S.source input.new) (T.sink output.new)) result }
     ensures all_read { result ≡ ENDED → IfSome (S.source input.new).left (λ bytes. bytes ≡ []) }
     ensures read_faults { (S.source input.old).faults ≤ (S.source input.new).faults }
     ensures write_faults { (T.sink output.old).faults ≤ (T.sink output.new).faults }

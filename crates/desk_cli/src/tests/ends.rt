@@ -1,6 +1,8 @@
 //! Words that are refused, reads and writes that fail.
 
 use super::*;
+use crate::status_of;
+use std::io::{self, ErrorKind};
 
 /// Words that the program does not take.
 const OTHER_WORDS: [&[&str]; 6] = [
@@ -18,6 +20,18 @@ fn other_words_are_refused(rt: HostRuntime) -> Result<(), Fail> {
         let wrote = call(rt.alloc(), words, b"auction 5 0 1\n", in_pieces(4_096))?;
         assert_eq!(rt; wrote.status, 2, "{} words", words.len());
         assert_eq!(rt; wrote.output.bytes(), b"words refused\n".as_slice());
+    }
+    Ok(())
+}
+
+#[test]
+fn words_that_want_memory_end_with_5(rt: HostRuntime) -> Result<(), Fail> {
+    let alloc = rt.alloc();
+    for (kind, status) in [(ErrorKind::OutOfMemory, 5), (ErrorKind::InvalidData, 2)] {
+        let mut source = MemSource::new(Vec::new(alloc), 1, Vec::new(alloc));
+        let mut sink = MemSink::new(alloc, 100, 100, Vec::new(alloc))?;
+        let words = Err(io::Error::from(kind));
+        assert_eq!(rt; status_of(alloc, words, &mut source, &mut sink), status);
     }
     Ok(())
 }

@@ -3,6 +3,7 @@ use Rattle.std.proofs.Common.{◌≡◌, ℕ, ◌+◌, ◌≤◌, Bool, true, fa
 use Rattle.std.specs.List.{All}
 use Rattle.std.proofs.lemmas.List.Elements.{All-cons, All-head, All-more, All-nil, All-tail, All-weaker}
 use Rattle.desk_types.specs.declared.call.Call.TheVariants.{Click}
+use Rattle.desk_types.specs.declared.rows.Fate.{Fate}
 use Rattle.desk_types.specs.declared.rows.Fate.TheVariants.{Settled}
 use Rattle.desk_types.specs.declared.rows.Placement.{Placement}
 use Rattle.desk_types.specs.declared.tables.Change.{Change}
@@ -106,13 +107,20 @@ pub room_next : (spare : Spare) (change : Change) (rest : List Change) → HasRo
 room_next spare change rest h =
     has_room-fewer spare 1 (length (change ∷ rest)) change (omega arith) (All-head (HasRoomFor spare (length (change ∷ rest))) change rest h)
 
+-- no change needs no room, and a fate none either
+pub room_for_nothing : (spare : Spare) → HasRoom spare []
+room_for_nothing spare = All-nil (HasRoomFor spare 0)
+
+pub room_for_fate : (spare : Spare) (number : ℕ) (fate : Fate) → HasRoom spare (PutFate number fate ∷ [])
+room_for_fate spare number fate = All-cons (HasRoomFor spare 1) (PutFate number fate) [] tt (All-nil (HasRoomFor spare 1))
+
 -- a click needs no room
 room_settled : (spare : Spare) (number moment : ℕ) (escrowed : Bool) → HasRoom spare (cond escrowed (PutFate number (Settled moment) ∷ []) [])
-room_settled spare number moment true = All-cons (HasRoomFor spare 1) (PutFate number (Settled moment)) [] tt (All-nil (HasRoomFor spare 1))
-room_settled spare number moment false = All-nil (HasRoomFor spare 0)
+room_settled spare number moment true = room_for_fate spare number (Settled moment)
+room_settled spare number moment false = room_for_nothing spare
 
 room_for_settlement : (spare : Spare) (moment : ℕ) (found : Option Placement) → HasRoom spare (settlement moment found)
-room_for_settlement spare moment None = All-nil (HasRoomFor spare 0)
+room_for_settlement spare moment None = room_for_nothing spare
 room_for_settlement spare moment (Some p) = room_settled spare p.number moment (is_escrowed moment p)
 
 pub room_for_click : (spare : Spare) (S : State) (placement : ℕ) → HasRoom spare (changes S (Click placement))

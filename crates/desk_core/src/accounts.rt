@@ -7,10 +7,10 @@ ghost use Rattle.desk_core.specs.Planned.{IsFirst, IsPlanned, IsStop};
 
 use crate::finds::{count_campaigns, fits_key, lacks_account, lacks_campaign};
 use crate::ledger::Ledger;
-use crate::plan::{Changes, Plan};
+use crate::plan::{Changes, Plan, Told};
 use crate::stop::{Stop, when};
 use desk_types::limits::{ACCOUNTS_MAX, BUDGET_MAX, BUDGET_MIN, CAMPAIGNS_MAX};
-use desk_types::{Account, BudgetSet, Campaign, Change, Field, Refusal, Reply, is_key};
+use desk_types::{Account, BudgetSet, Campaign, Change, Field, Refusal, is_key};
 use query_words::{List, Text, Twin};
 use std::alloc::{AllocError, Global};
 
@@ -54,7 +54,8 @@ impl Ledger {
             key: key.twin()?,
             suspended: false,
         };
-        Ok(Plan::one(Change::PutAccount(account), Reply::Made(number)))
+        let alloc = *self.accounts.allocator();
+        Ok(Plan::one(alloc, Change::PutAccount(account), Told::Made(number))?)
     }
 
     /// Plans a campaign, which is on from the start, with the budget of its first day.
@@ -87,7 +88,7 @@ impl Ledger {
         let changes = put_both(*self.campaigns.allocator(), campaign, setting)?;
         Ok(Plan {
             changes: Changes::Several(List::from_vec(changes)),
-            reply: Reply::Made(number),
+            told: Told::Made(number),
         })
     }
 }

@@ -6,13 +6,13 @@ ghost use Rattle.desk_types.specs.declared.call.Call.{Call};
 ghost use Rattle.desk_types.specs.Changes.{settlement};
 ghost use Rattle.desk_types.specs.Sound.{IsSound};
 ghost use Rattle.desk_types.specs.Tables.{placement_of};
-ghost use Rattle.desk_core.specs.Planned.{IsPlanned, IsStop, listed};
+ghost use Rattle.desk_core.specs.Planned.{IsPlanned, IsStop, IsThere, listed, replied};
 
 use crate::ledger::Ledger;
 use crate::money::is_escrowed;
-use crate::plan::{Changes, Plan};
+use crate::plan::{Changes, Plan, Told};
 use crate::stop::Stop;
-use desk_types::{Change, Fate, LinkText, Placement, Refusal, Reply};
+use desk_types::{Fate, Placement, Refusal, Reply};
 
 impl Ledger {
     /// Plans a click on the placement of this number: it settles where the price is escrowed, and goes to the line's
@@ -27,11 +27,28 @@ impl Ledger {
         let Some(found) = self.placement_of(placement) else {
             return Err(Stop::Refused(Refusal::NoPlacement));
         };
-        let line = self.line_there(found.account, found.line);
         Ok(Plan {
             changes: settlement(self.moment, found),
-            reply: Reply::Went(copy_of(&line.link)),
+            told: Told::Link {
+                account: found.account,
+                line: found.line,
+            },
         })
+    }
+
+    /// The reply that is told. It takes no memory.
+    pub(crate) fn reply(&self, told: Told) -> Reply
+        requires { IsThere self.now.state.tables told }
+        ensures { result ≡ replied self.now.state.tables told }
+    {
+        match told {
+            Told::Made(number) => Reply::Made(number),
+            Told::Done => Reply::Done,
+            Told::Page(spots) => Reply::Page(spots),
+            Told::Link { account, line } => {
+                Reply::Went(self.line_there(account, line).link.copy())
+            }
+        }
     }
 
     /// The placement of this number, if there is one.
@@ -49,18 +66,8 @@ fn settlement(moment: u64, found: &Placement) -> Changes
     if !is_escrowed(found, moment) {
         return Changes::Nothing;
     }
-    Changes::One(Change::PutFate {
+    Changes::Fate {
         number: found.number,
         fate: Fate::Settled(moment),
-    })
-}
-
-/// An equal link. It takes no memory.
-fn copy_of(link: &LinkText) -> LinkText
-    ensures { result ≡ link.now }
-{
-    match LinkText::read(link.as_str()) {
-        Some(copy) => copy,
-        None => unreachable!(),
     }
 }

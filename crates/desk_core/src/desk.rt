@@ -119,9 +119,10 @@ fn answer(ledger: &mut Ledger, journal: &mut Journal, call: &Call) -> Result<Rep
     journal.reserve(1)?;
     match planned {
         Ok(plan) => {
-            ledger.make_room(plan.changes.as_slice())?;
+            ledger.make_room(&plan.changes)?;
+            let reply = ledger.reply(plan.told);
             ledger.accept(call, plan.changes);
-            Ok(plan.reply)
+            Ok(reply)
         }
         Err(Stop::Refused(refusal)) => Ok(Reply::Refused(refusal)),
         Err(Stop::NoMemory) => Err(AllocError),

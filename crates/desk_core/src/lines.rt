@@ -8,10 +8,10 @@ ghost use Rattle.desk_core.specs.Planned.{IsFirst, IsPlanned, IsStop};
 
 use crate::finds::count_lines;
 use crate::ledger::Ledger;
-use crate::plan::Plan;
+use crate::plan::{Plan, Told};
 use crate::stop::{Stop, when};
 use desk_types::limits::{BID_MAX, BID_MIN, LINES_MAX, QUALITY_NEW};
-use desk_types::{Change, Field, Line, LinkText, Refusal, Reply, is_headline};
+use desk_types::{Change, Field, Line, LinkText, Refusal, is_headline};
 use match_types::Pattern;
 use query_words::{Text, Twin};
 use std::marker::Model;
@@ -57,7 +57,8 @@ impl Ledger {
         self.judge_owner(account, key)?;
         let line = self.line_made(account, asked)?;
         let number = line.number;
-        Ok(Plan::one(Change::PutLine(line), Reply::Made(number)))
+        let alloc = *self.lines.allocator();
+        Ok(Plan::one(alloc, Change::PutLine(line), Told::Made(number))?)
     }
 
     /// The row of a line that an account asks for, or why it is refused.

@@ -10,10 +10,10 @@ ghost use Rattle.desk_core.specs.Planned.{IsFirst, IsPlanned, IsStop, listed};
 
 use crate::finds::{count_negatives, has_live_negative};
 use crate::ledger::Ledger;
-use crate::plan::{Changes, Plan};
+use crate::plan::{Changes, Plan, Told};
 use crate::stop::{Stop, when};
 use desk_types::limits::NEGATIVES_MAX;
-use desk_types::{Change, Negative, Refusal, Reply};
+use desk_types::{Change, Negative, Refusal};
 use match_types::Pattern;
 use query_words::{NoMemory, Text, Twin};
 
@@ -31,7 +31,7 @@ impl Ledger {
         )?;
         Ok(Plan {
             changes: self.drop_of(account, negative)?,
-            reply: Reply::Done,
+            told: Told::Done,
         })
     }
 
@@ -41,7 +41,10 @@ impl Ledger {
             listed changes ≡ drop_of (negative_of self.now.state.tables account negative)) }
     {
         match self.negative_of(account, negative) {
-            Some(found) => Ok(Changes::One(Change::PutNegative(with_live(found, false)?))),
+            Some(found) => {
+                let dropped = Change::PutNegative(with_live(found, false)?);
+                Changes::one(*self.negatives.allocator(), dropped)
+            }
             None => Ok(Changes::Nothing),
         }
     }
@@ -72,7 +75,8 @@ impl Ledger {
         self.judge_campaign(account, campaign)?;
         let negative = self.negative_made(account, campaign, pattern)?;
         let number = negative.number;
-        Ok(Plan::one(Change::PutNegative(negative), Reply::Made(number)))
+        let alloc = *self.negatives.allocator();
+        Ok(Plan::one(alloc, Change::PutNegative(negative), Told::Made(number))?)
     }
 
     /// The row of a negative that an account asks for in a campaign that is there, or why it is refused.

@@ -1,10 +1,11 @@
 //! What an accepted call changes, and what it replies.
 
-ghost use Rattle.std.specs.Prelude.{◌≡◌, [], ◌∷◌};
+ghost use Rattle.std.specs.Prelude.{◌≡◌, [], ◌∷◌, IfOk};
 ghost use Rattle.desk_core.specs.Planned.{listed};
 
-use desk_types::{Change, Reply};
+use desk_types::{Change, Fate, Spot};
 use query_words::List;
+use std::alloc::{AllocError, Global};
 
 /// What an accepted call changes, and what it replies.
 #[derive(Drop)]
@@ -12,42 +13,61 @@ pub struct Plan {
     /// The changes.
     pub changes: Changes,
     /// The reply.
-    pub reply: Reply,
+    pub told: Told,
 }
 
-/// Changes to the rows, in order. None and one take no memory.
+/// The reply to an accepted call. A link is told by its line, so that it is copied into the answer alone.
+#[derive(Drop)]
+pub enum Told {
+    /// A thing was made, of this number.
+    Made(u64),
+    /// It was done.
+    Done,
+    /// The page.
+    Page(List<Spot>),
+    /// The click goes to the link of this line.
+    Link {
+        /// The account's number.
+        account: u64,
+        /// The line's number within the account.
+        line: u64,
+    },
+}
+
+/// Changes to the rows, in order. None and a fate take no memory.
 #[derive(Drop)]
 pub enum Changes {
     /// There is none.
     Nothing,
-    /// There is one.
-    One(Change),
+    /// The fate of a placement is set.
+    Fate {
+        /// The placement's number.
+        number: u64,
+        /// What became of it.
+        fate: Fate,
+    },
     /// There are these.
     Several(List<Change>),
 }
 
 impl Plan {
     /// One change.
-    pub fn one(change: Change, reply: Reply) -> Plan
-        ensures changes { listed result.changes ≡ change ∷ [] }
-        ensures reply { result.reply ≡ reply }
+    pub fn one(alloc: Global, change: Change, told: Told) -> Result<Plan, AllocError>
+        ensures changes { IfOk result (λ plan. listed plan.changes ≡ change ∷ []) }
+        ensures told { IfOk result (λ plan. plan.told ≡ told) }
     {
-        Plan {
-            changes: Changes::One(change),
-            reply,
-        }
+        Ok(Plan {
+            changes: Changes::one(alloc, change)?,
+            told,
+        })
     }
 }
 
 impl Changes {
-    /// The changes, in order.
-    pub fn as_slice(&self) -> &[Change]
-        ensures { result.now ≡ listed self.now }
+    /// One change.
+    pub fn one(alloc: Global, change: Change) -> Result<Changes, AllocError>
+        ensures { IfOk result (λ changes. listed changes ≡ change ∷ []) }
     {
-        match self {
-            Changes::Nothing => &[],
-            Changes::One(change) => std::slice::from_ref(change),
-            Changes::Several(list) => list.as_slice(),
-        }
+        Ok(Changes::Several(List::from_vec(vec![in alloc; change]?)))
     }
 }

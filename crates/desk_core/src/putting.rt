@@ -18,8 +18,21 @@ use std::alloc::AllocError;
 
 impl Ledger {
     /// Makes room for changes in the tables that they put into. The rows stay as they are, also where memory is
-    /// wanted.
-    pub fn make_room(&mut self, changes: &[Change]) -> Result<(), AllocError>
+    /// wanted. A fate needs no room.
+    #[tactic(auto, using(crate::proofs::Rooms::room_for_nothing, crate::proofs::Rooms::room_for_fate))]
+    pub fn make_room(&mut self, changes: &Changes) -> Result<(), AllocError>
+        ensures state { self.new.state ≡ self.old.state }
+        ensures room { OnOk result (HasRoom self.new.spare (listed changes.now)) }
+        ensures succeeds { HasRoom self.old.spare (listed changes.now) → IsOk result }
+    {
+        match changes {
+            Changes::Nothing | Changes::Fate { .. } => Ok(()),
+            Changes::Several(list) => self.make_room_for_all(list.as_slice()),
+        }
+    }
+
+    /// Makes room for the changes of a list.
+    fn make_room_for_all(&mut self, changes: &[Change]) -> Result<(), AllocError>
         ensures state { self.new.state ≡ self.old.state }
         ensures room { OnOk result (HasRoom self.new.spare changes.now) }
         ensures succeeds { HasRoom self.old.spare changes.now → IsOk result }
@@ -72,7 +85,7 @@ impl Ledger {
     }
 
     /// Puts changes, in order.
-    #[tactic(auto, unfolding(desk_types::specs::Tables::put_all))]
+    #[tactic(auto, unfolding(desk_types::specs::Tables::put_all, desk_types::specs::Tables::put))]
     fn put_changes(&mut self, changes: Changes)
         requires in_order { StandInOrder self.old.state.tables }
         requires room { HasRoom self.old.spare (listed changes) }
@@ -80,7 +93,7 @@ impl Ledger {
     {
         match changes {
             Changes::Nothing => {}
-            Changes::One(change) => self.put(change),
+            Changes::Fate { number, fate } => self.put_fate(number, fate),
             Changes::Several(list) => self.put_all(list),
         }
     }

@@ -14,11 +14,11 @@ ghost use Rattle.desk_core.specs.Planned.{IsPlanned, IsStop};
 ghost use Rattle.desk_core.specs.Shown.{HasLine};
 
 use crate::ledger::Ledger;
-use crate::plan::{Changes, Plan};
+use crate::plan::{Changes, Plan, Told};
 use crate::stop::Stop;
 use arrayvec::ArrayVec;
 use desk_types::limits::PLACES_MAX;
-use desk_types::{Call, Change, Field, Placement, Refusal, Reply};
+use desk_types::{Call, Change, Field, Placement, Refusal};
 use query_words::{List, Text, Words, WordsError, words};
 use rank_core::{Ranked, page_of};
 use std::alloc::{AllocError, Global};
@@ -37,7 +37,7 @@ impl Ledger {
         let changes = put_each(*self.lines.allocator(), &placements)?;
         Ok(Plan {
             changes: Changes::Several(List::from_vec(changes)),
-            reply: Reply::Page(List::from_vec(spots)),
+            told: Told::Page(List::from_vec(spots)),
         })
     }
 

@@ -86,7 +86,7 @@ impl Ledger {
             campaign: placement.campaign,
             line: placement.line,
             headline: line.headline.twin()?,
-            link: line.link.twin()?,
+            link: line.link.copy(),
             price: placement.price,
         })
     }

@@ -47,10 +47,17 @@ impl LinkText {
     {
         self.text.as_str()
     }
+
+    /// An equal link. It takes no memory.
+    pub fn copy(&self) -> LinkText
+        ensures { result ≡ self.now }
+    {
+        LinkText { text: self.text }
+    }
 }
 
 impl Twin for LinkText {
     fn twin(&self) -> Result<Self, NoMemory> {
-        Ok(LinkText { text: self.text })
+        Ok(self.copy())
     }
 }

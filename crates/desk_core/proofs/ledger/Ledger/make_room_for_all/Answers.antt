@@ -4,7 +4,7 @@ use Rattle.std.proofs.lemmas.List.{take_all}
 use Rattle.std.proofs.lemmas.List.Elements.{All-same}
 use Rattle.desk_core.specs.LedgerValue.{HasRoomFor}
 use Rattle.desk_core.proofs.Rooms.{has_room-kept, made_more}
-use Rattle.desk_core.proofs.ledger.Ledger.make_room.Goals as goal
+use Rattle.desk_core.proofs.ledger.Ledger.make_room_for_all.Goals as goal
 
 pub returns-in_err-make_room_for-clause-state : goal.returns-in_err-make_room_for-clause-state
 returns-in_err-make_room_for-clause-state c = c.make_room_for.ensures.state ∙ c.loop-change.invariant.state

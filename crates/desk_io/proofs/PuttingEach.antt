@@ -12,7 +12,7 @@ module _ {A : Type 0} (text : A → List ℕ) (things : List A) (i : ℕ) (thing
       Puts {E = E} o p w x (flat_map text (take i things)) (Ok value) → Puts p q x y (text thing) result → Puts o q w y (flat_map text (take (i + 1) things)) result
   puts_one_more {o = o} {q = q} {w} {y = y} {result = result} before one =
       let texts : flat_map text (take i things) ++ text thing ≡ flat_map text (take (i + 1) things) =
-          ap (λ last. flat_map text (take i things) ++ text last) is ∙ sym (flat_map-more text things i thing inside) in
+      ap (λ last. flat_map text (take i things) ++ text last) is ∙ sym (flat_map-more text things i thing inside) in
       subst (λ (bytes : List ℕ). Puts o q w y bytes result) texts (puts_again before one)
 
   -- a write failed behind the first ones
@@ -21,5 +21,5 @@ module _ {A : Type 0} (text : A → List ℕ) (things : List A) (i : ℕ) (thing
   puts_stopped {o = o} {q = q} {w} {y = y} {result = result} before one is_err =
       let rest = flat_map text (drop (i + 1) things) in
       let texts : flat_map text (take i things) ++ (text thing ++ rest) ≡ flat_map text things =
-          ap (λ one. flat_map text (take i things) ++ (text one ++ rest)) is ∙ sym (flat_map-parts text things i thing inside) in
+      ap (λ one. flat_map text (take i things) ++ (text one ++ rest)) is ∙ sym (flat_map-parts text things i thing inside) in
       subst (λ (bytes : List ℕ). Puts o q w y bytes result) texts (puts_again before (puts_broken rest one is_err))

@@ -131,10 +131,10 @@ impl NumberedLines {
             else LineFault.LongLine (self.now.count + 1))
         }
     {
-        if self.count == INPUT_LINES_MAX {
-            LineFault::TooManyLines
-        } else {
+        if self.count < INPUT_LINES_MAX {
             LineFault::LongLine(self.count + 1)
+        } else {
+            LineFault::TooManyLines
         }
     }
 

@@ -37,7 +37,9 @@ name_text spot = decimal spot.account ++ (codes "." ++ (decimal spot.campaign ++
 
 -- a place of a page: ` | PLACE A.C.L PRICE #PLACEMENT`
 abbrev pub spot_text : Spot → List ℕ
-spot_text spot = codes " | " ++ (decimal spot.place ++ (codes " " ++ (name_text spot ++ (codes " " ++ (decimal spot.price ++ (codes " #" ++ decimal spot.placement))))))
+spot_text spot =
+    codes " | " ++ (decimal spot.place ++ (codes " " ++ (name_text spot
+    ++ (codes " " ++ (decimal spot.price ++ (codes " #" ++ decimal spot.placement))))))
 
 -- `page COUNT` and each of its places
 unfoldable pub page_text : List Spot → List ℕ

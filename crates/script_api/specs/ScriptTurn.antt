@@ -27,7 +27,9 @@ midway at lines waiting = record { at = at; lines = lines; waiting = waiting }
 pub record AreCallsServed (start : ScriptState) (now : Midway) (calls : List (ℕ × Call)) : Type 0 where
   pub results : List (Result Reply Fault)
   pub served : AreServed start.service calls results now.at.service
-  pub puts : Puts {T = Unit {0}} {E = WriteFault} start.sink now.at.sink [] now.waiting (flat_map answer_line results) (Ok tt)
+  pub puts :
+    Puts {T = Unit {0}} {E = WriteFault}
+      start.sink now.at.sink [] now.waiting (flat_map answer_line results) (Ok tt)
   pub read_faults : start.source.faults ≤ now.at.source.faults
 
 -- texts spell these calls, and none of them ends the script

@@ -36,7 +36,10 @@ pub fn script<V: Service, S: Source, T: Sink>(
     ensures run { IsRun (script_at (V.service service.old) (S.source input.old) (T.sink output.old))
         (script_at (V.service service.new) (S.source input.new) (T.sink output.new)) result }
     ensures all_read { result ≡ ScriptEnd.Ended → IfSome (S.source input.new).left (λ bytes. bytes ≡ []) }
-    ensures cause { EndCause (kind_of result) (S.source input.old) (S.source input.new) (T.sink output.old) (T.sink output.new) }
+    ensures cause {
+        EndCause (kind_of result)
+            (S.source input.old) (S.source input.new) (T.sink output.old) (T.sink output.new)
+    }
     ensures read_faults { (S.source input.old).faults ≤ (S.source input.new).faults }
     ensures write_faults { (T.sink output.old).faults ≤ (T.sink output.new).faults }
     ensures sink_side { S.sink_side input.new ≡ S.sink_side input.old }

@@ -2,7 +2,7 @@
 
 use crate::{
     Clock, Got, LineGot, LineReader, Link, MemClock, MemLink, MemSink, MemSource, OutBuf, Pair,
-    Put, Sink, Source, StdSink, StdSource,
+    Put, Sink, Source, StdSink, StdSource, WallClock,
 };
 use std::alloc::{AllocError, Global};
 use std::io::{Error, ErrorKind, Read, Write};
@@ -45,6 +45,10 @@ fn a_clock_answers_its_moments_and_then_the_last_one(rt: HostRuntime) -> Result<
         assert_eq!(rt; clock.now(), moment);
     }
     assert_eq!(rt; MemClock::new(Vec::new(alloc)).now(), 0);
+    assert!(rt;
+        WallClock::new(rt).now() > 1_700_000_000,
+        "seconds since 1970"
+    );
     Ok(())
 }
 

@@ -1,7 +1,7 @@
 use Rattle.std.proofs.Common.{◌≡◌, ◌++◌, ◌∙◌, ℕ, List, [], refl, ap, append-nil}
 use Rattle.std.specs.Prelude.{codes}
 use Rattle.desk_types.specs.declared.refusal.Detail.{Detail}
-use Rattle.desk_types.specs.Refusal.{name_of, detail_of}
+use Rattle.desk_types.specs.Refusal.{detail_of}
 use Rattle.desk_io.proofs.Putting.{puts_again, puts_as, puts_broken}
 use Rattle.script_api.specs.ReplyLine.{detail_text}
 use Rattle.script_api.proofs.reply_line.put_refusal.Goals as goal

@@ -18,22 +18,31 @@ mod script;
 mod status;
 mod top;
 
-use desk_io::{StdSink, StdSource};
+use desk_io::{Sink, Source, StdSink, StdSource};
+use std::alloc::Global;
 use std::process::ExitCode;
 use std::{env, io};
 
 fn main(rt: HostRuntime) -> ExitCode {
-    let words = match words_of(&rt) {
-        Ok(words) => words,
-        Err(error) if error.kind() == io::ErrorKind::OutOfMemory => return ExitCode::from(
-            status::NO_MEMORY,
-        ),
-        Err(_) => Vec::new(rt.alloc()),
-    };
     let mut input = StdSource::new(rt.stdin());
     let mut output = StdSink::new(rt.stdout());
-    let served = top::desk_top(rt.alloc(), &words, &mut input, &mut output);
-    ExitCode::from(served.status)
+    ExitCode::from(status_of(rt.alloc(), words_of(&rt), &mut input, &mut output))
+}
+
+/// The status of the call by these words; 5 where they wanted memory, and words that cannot be read are
+/// refused.
+fn status_of<S: Source, T: Sink>(
+    alloc: Global,
+    words: io::Result<Vec<String>>,
+    input: &mut S,
+    output: &mut T,
+) -> u8 {
+    let words = match words {
+        Ok(words) => words,
+        Err(error) if error.kind() == io::ErrorKind::OutOfMemory => return status::NO_MEMORY,
+        Err(_) => Vec::new(alloc),
+    };
+    top::desk_top(alloc, &words, input, output).status
 }
 
 /// The words behind the program's name.

@@ -8,19 +8,7 @@ use std::test::Fail;
 
 mod auctions;
 mod ends;
-mod lines;
 mod scripts;
-
-/// The sizes of the pieces in which the input comes and the output goes.
-const CUTS: [u64; 4] = [1, 2, 3, 4_096];
-
-/// An auction, what it shows and how it is answered.
-struct Case {
-    shows: &'static str,
-    input: &'static [u8],
-    status: u8,
-    output: &'static [u8],
-}
 
 /// How a call goes: the size of the pieces, and the read and the write that fail, counted from 1;
 /// none fails where it is 0.
@@ -31,12 +19,14 @@ struct Way {
     failing_write: u64,
 }
 
-/// In whole pieces, with no fault.
-const WHOLE: Way = Way {
-    cut: 4_096,
-    failing_read: 0,
-    failing_write: 0,
-};
+/// In pieces of this size, with no fault.
+fn in_pieces(cut: u64) -> Way {
+    Way {
+        cut,
+        failing_read: 0,
+        failing_write: 0,
+    }
+}
 
 /// What a call wrote, and its status.
 #[derive(Drop)]
@@ -45,7 +35,18 @@ struct Wrote {
     output: MemSink,
 }
 
-/// The numbers of the calls that are to fail.
+/// A text with line feeds in place of semicolons.
+fn lines_of(alloc: Global, text: &str) -> Result<Vec<u8>, NoMemory> {
+    let mut bytes = Vec::from_slice(alloc, text.as_bytes())?;
+    for byte in bytes.as_mut_slice() {
+        if *byte == b';' {
+            *byte = b'\n';
+        }
+    }
+    Ok(bytes)
+}
+
+/// The number of a call that is to fail, if one is.
 fn failing(alloc: Global, number: u64) -> Result<Vec<u64>, NoMemory> {
     let mut numbers = Vec::new(alloc);
     if number > 0 {
@@ -78,57 +79,19 @@ fn call(alloc: Global, words: &[&str], input: &[u8], way: Way) -> Result<Wrote, 
     })
 }
 
-/// Checks what an auction is answered in one way.
-fn check_way(
-    rt: &(impl Abort + AllocGlobal),
-    shows: &str,
-    input: &[u8],
-    way: Way,
-    status: u8,
-    output: &[u8],
-) -> Result<(), Fail> {
-    let wrote = call(rt.alloc(), &["auction"], input, way)?;
-    let Way {
-        cut,
-        failing_read,
-        failing_write,
-    } = way;
-    assert_eq!(rt;
-        wrote.status,
-        status,
-        "{shows}: {cut}, {failing_read}, {failing_write}"
-    );
-    assert_eq!(rt;
-        wrote.output.bytes(),
-        output,
-        "{shows}: {cut}, {failing_read}, {failing_write}"
-    );
-    Ok(())
-}
-
-/// Checks that an auction is answered by a status and an output, in whatever pieces it comes.
+/// Checks the status and the output of a call with one word; lines end with semicolons.
 fn check(
     rt: &(impl Abort + AllocGlobal),
-    shows: &str,
-    input: &[u8],
-    status: u8,
-    output: &[u8],
+    (shows, word): (&str, &str),
+    input: &str,
+    way: Way,
+    (status, output): (u8, &str),
 ) -> Result<(), Fail> {
-    for cut in CUTS {
-        let way = Way {
-            cut,
-            failing_read: 0,
-            failing_write: 0,
-        };
-        check_way(rt, shows, input, way, status, output)?;
-    }
-    Ok(())
-}
-
-/// Checks each case of a table.
-fn check_each(rt: &(impl Abort + AllocGlobal), cases: &[Case]) -> Result<(), Fail> {
-    for case in cases {
-        check(rt, case.shows, case.input, case.status, case.output)?;
-    }
+    let alloc = rt.alloc();
+    let input = lines_of(alloc, input)?;
+    let output = lines_of(alloc, output)?;
+    let wrote = call(alloc, &[word], input.as_slice(), way)?;
+    assert_eq!(rt; wrote.status, status, "{shows}");
+    assert_eq!(rt; wrote.output.bytes(), output.as_slice(), "{shows}");
     Ok(())
 }

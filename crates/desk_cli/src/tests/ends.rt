@@ -1,19 +1,8 @@
 //! Words that are refused, reads and writes that fail.
 
 use super::*;
-
-/// Checks that words are refused.
-fn check_refused(rt: &(impl Abort + AllocGlobal), words: &[&str]) -> Result<(), Fail> {
-    let wrote = call(rt.alloc(), words, b"auction 5 0 1\n", WHOLE)?;
-    let count = words.len();
-    assert_eq!(rt; wrote.status, 2, "{count} words");
-    assert_eq!(rt;
-        wrote.output.bytes(),
-        b"words refused\n".as_slice(),
-        "{count} words"
-    );
-    Ok(())
-}
+use crate::status_of;
+use std::io::{self, ErrorKind};
 
 /// Words that the program does not take.
 const OTHER_WORDS: [&[&str]; 6] = [
@@ -28,72 +17,126 @@ const OTHER_WORDS: [&[&str]; 6] = [
 #[test]
 fn other_words_are_refused(rt: HostRuntime) -> Result<(), Fail> {
     for words in OTHER_WORDS {
-        check_refused(&rt, words)?;
+        let wrote = call(rt.alloc(), words, b"auction 5 0 1\n", in_pieces(4_096))?;
+        assert_eq!(rt; wrote.status, 2, "{} words", words.len());
+        assert_eq!(rt; wrote.output.bytes(), b"words refused\n".as_slice());
     }
     Ok(())
 }
 
-const AUCTION: &[u8] = b"auction 5 0 2\nad 1.1.1 100 10 1000\nad 2.1.1 80 10 1000\n";
+#[test]
+fn words_that_want_memory_end_with_5(rt: HostRuntime) -> Result<(), Fail> {
+    let alloc = rt.alloc();
+    for (kind, status) in [(ErrorKind::OutOfMemory, 5), (ErrorKind::InvalidData, 2)] {
+        let mut source = MemSource::new(Vec::new(alloc), 1, Vec::new(alloc));
+        let mut sink = MemSink::new(alloc, 100, 100, Vec::new(alloc))?;
+        let words = Err(io::Error::from(kind));
+        assert_eq!(rt; status_of(alloc, words, &mut source, &mut sink), status);
+    }
+    Ok(())
+}
 
-const PAGE: &[u8] = b"1 1.1.1 80\n2 2.1.1 5\nend\n";
+const AUCTION: &str = "auction 5 0 2;ad 1.1.1 100 10 1000;ad 2.1.1 80 10 1000;";
 
-/// Checks each of so many reads, in pieces of a size, as the one that fails, and that there are no more.
-fn check_reads(rt: &(impl Abort + AllocGlobal), cut: u64, reads: u64) -> Result<(), Fail> {
-    for failing_read in 1..=reads {
+const CALLS: &str = "100 account secret01;100 campaign 1 secret01 1000;";
+
+/// What is shown, the word, the input, the size of pieces, the read and the write that fail, the status
+/// and what is written.
+const FAULTS: [(&str, &str, &str, (u64, u64, u64), u8, &str); 13] = [
+    (
+        "the first read",
+        "auction",
+        AUCTION,
+        (4_096, 1, 0),
+        3,
+        "read fault;",
+    ),
+    (
+        "a read in a line",
+        "auction",
+        AUCTION,
+        (7, 4, 0),
+        3,
+        "read fault;",
+    ),
+    (
+        "the read of the end",
+        "auction",
+        AUCTION,
+        (4_096, 2, 0),
+        3,
+        "read fault;",
+    ),
+    (
+        "a bad line, and then a failing read",
+        "auction",
+        "auction 5 0 1;ad;",
+        (4_096, 2, 0),
+        8,
+        "bad line 2;",
+    ),
+    ("the first write", "auction", AUCTION, (4_096, 0, 1), 4, ""),
+    (
+        "a write in a line",
+        "auction",
+        AUCTION,
+        (7, 0, 2),
+        4,
+        "1 1.1.1",
+    ),
+    ("the last line", "auction", "ad;", (4_096, 0, 1), 4, ""),
+    (
+        "a read of a script",
+        "script",
+        CALLS,
+        (21, 2, 0),
+        3,
+        "made 1;read fault;",
+    ),
+    (
+        "the read of its end",
+        "script",
+        CALLS,
+        (4_096, 2, 0),
+        3,
+        "made 1;made 1;read fault;",
+    ),
+    (
+        "a bad line of a script, and then a failing read",
+        "script",
+        "100 x;",
+        (4_096, 2, 0),
+        8,
+        "bad line 1;",
+    ),
+    ("a write of a script", "script", CALLS, (4_096, 0, 1), 4, ""),
+    (
+        "the last line of a script",
+        "script",
+        "100 x;",
+        (4_096, 0, 1),
+        4,
+        "",
+    ),
+    (
+        "the last line behind an answer",
+        "script",
+        "100 account secret01;100 x;",
+        (4_096, 0, 2),
+        4,
+        "made 1;",
+    ),
+];
+
+#[test]
+fn a_fault_ends_a_call_behind_what_was_read(rt: HostRuntime) -> Result<(), Fail> {
+    for (shows, word, input, (cut, failing_read, failing_write), status, output) in FAULTS {
         let way = Way {
             cut,
             failing_read,
-            failing_write: 0,
-        };
-        check_way(rt, "a read", AUCTION, way, 3, b"read fault\n")?;
-    }
-    let way = Way {
-        cut,
-        failing_read: reads.saturating_add(1),
-        failing_write: 0,
-    };
-    check_way(rt, "no read more", AUCTION, way, 0, PAGE)
-}
-
-/// The size of the pieces, and the number of reads of the auction.
-const READS: [(u64, u64); 4] = [(1, 56), (2, 29), (3, 20), (4_096, 2)];
-
-#[test]
-fn a_read_that_fails_is_told_alone(rt: HostRuntime) -> Result<(), Fail> {
-    for (cut, reads) in READS {
-        check_reads(&rt, cut, reads)?;
-    }
-    Ok(())
-}
-
-/// Checks each of so many writes, in pieces of a size, as the one that fails, and that there are no more.
-fn check_writes(rt: &(impl Abort + AllocGlobal), cut: u64, writes: u64) -> Result<(), Fail> {
-    let mut sent: usize = 0;
-    for failing_write in 1..=writes {
-        let way = Way {
-            cut,
-            failing_read: 0,
             failing_write,
         };
-        let beginning = PAGE.split_at(sent.min(PAGE.len())).0;
-        check_way(rt, "a write", AUCTION, way, 4, beginning)?;
-        sent = sent.saturating_add(cut as usize);
-    }
-    let way = Way {
-        cut,
-        failing_read: 0,
-        failing_write: writes.saturating_add(1),
-    };
-    check_way(rt, "no write more", AUCTION, way, 0, PAGE)
-}
-
-/// The size of the pieces, and the number of writes of the page.
-const WRITES: [(u64, u64); 4] = [(1, 25), (2, 13), (3, 9), (4_096, 1)];
-
-#[test]
-fn a_write_that_fails_leaves_a_beginning(rt: HostRuntime) -> Result<(), Fail> {
-    for (cut, writes) in WRITES {
-        check_writes(&rt, cut, writes)?;
+        check(&rt, (shows, word), input, way, (status, output))?;
     }
     Ok(())
 }

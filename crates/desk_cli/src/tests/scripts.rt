@@ -1,101 +1,184 @@
 //! Scripts on a desk.
 
-use super::{Way, Wrote, call};
-use std::process::Abort;
-use std::test::Fail;
+use super::*;
+use std::fmt::Write;
 
-/// An account with a campaign and a line, and what they are answered.
-const OPENED: &str = "100 account secret01\n100 campaign 1 secret01 1000\n\
-    100 line 1 secret01 1 50 http://s.example/ shoes | Shoes\n";
+const P: &str = "100 account secret01;100 campaign 1 secret01 1000;\
+    100 line 1 secret01 1 50 http://s.example/ shoes | Shoes;";
 
-const MADE: &str = "made 1\nmade 1\nmade 1\n";
+const MADE: &str = "made 1;made 1;made 1;";
 
-/// Checks that a script behind the opening lines is answered by a status and an output, in whatever
-/// pieces it comes.
-fn check(
+/// Checks what a script behind the opening lines is answered, in pieces of several sizes.
+fn check_behind(
     rt: &(impl Abort + AllocGlobal),
     lines: &str,
     status: u8,
     answers: &str,
 ) -> Result<(), Fail> {
-    let input = format!(in rt.alloc(); "{OPENED}{lines}")?;
+    let input = format!(in rt.alloc(); "{P}{lines}")?;
     let output = format!(in rt.alloc(); "{MADE}{answers}")?;
-    for cut in [1, 7, 4_096] {
-        let way = Way {
-            cut,
-            failing_read: 0,
-            failing_write: 0,
-        };
-        let wrote = call(rt.alloc(), &["script"], input.as_bytes(), way)?;
-        assert_eq!(rt; wrote.status, status, "{lines}, in pieces of {cut}");
-        assert_eq!(rt;
-            wrote.output.bytes(),
-            output.as_bytes(),
-            "{lines}, in pieces of {cut}"
-        );
+    check(
+        rt,
+        (lines, "script"),
+        &input,
+        in_pieces(1),
+        (status, &output),
+    )?;
+    check(
+        rt,
+        (lines, "script"),
+        &input,
+        in_pieces(4_096),
+        (status, &output),
+    )
+}
+
+/// What follows the opening lines, the status and the answers.
+const SCRIPTS: [(&str, u8, &str); 6] = [
+    (
+        NEGATIVES,
+        0,
+        "made 1;page 0;page 1 | 1 1.1.1 5 #1;done;refused NoNegative;made 1;",
+    ),
+    (
+        REFUSED,
+        8,
+        "refused NoAccount;refused BadKey;refused BadField Budget;refused LineThere 1;bad line 8;",
+    ),
+    ("# passed over;;1899 search 1", 0, "page 0;"),
+    ("100 host 0;100 click 1;", 8, "not built 4;"),
+    (" 100 click 1;", 8, "bad line 4;"),
+    (
+        "100 search - shoes;100 click 1;100 click 1;",
+        0,
+        "page 1 | 1 1.1.1 5 #1;went http://s.example/;went http://s.example/;",
+    ),
+];
+
+const NEGATIVES: &str =
+    "100 negative 1 secret01 1 -\"running shoes\";100 search - red running shoes;\
+    100 search - running red shoes;100 drop 1 secret01 1;100 drop 1 secret01 1;\
+    100 negative 1 secret01 1 -\"running shoes\";";
+
+const REFUSED: &str =
+    "100 campaign 7 secret01 0;100 campaign 1 wrongkey 0;100 campaign 1 secret01 0;\
+    100 line 1 secret01 1 50 http://s.example/ shoes | Shoes;100 nothing;";
+
+#[test]
+fn a_script_is_answered_by_one_desk(rt: HostRuntime) -> Result<(), Fail> {
+    for (lines, status, answers) in &SCRIPTS {
+        check_behind(&rt, lines, *status, answers)?;
+    }
+    Ok(())
+}
+
+const SPENT: &str = "100 account secret01;100 campaign 1 secret01 50;\
+    100 line 1 secret01 1 50 http://s.example/ shoes | Shoes;100 search - red shoes;100 click 1;\
+    100 search - shoes;100 search -;";
+
+#[test]
+fn what_is_spent_is_not_free(rt: HostRuntime) -> Result<(), Fail> {
+    let answers =
+        "made 1;made 1;made 1;page 1 | 1 1.1.1 5 #1;went http://s.example/;page 0;page 0;";
+    check(
+        &rt,
+        ("spent", "script"),
+        SPENT,
+        in_pieces(4_096),
+        (0, answers),
+    )
+}
+
+const SHOWN: &str = "page 1 | 1 1.1.1 5 #1";
+
+/// A pattern, a query, and the answers to a line with that pattern and to that search.
+const PATTERNS: [(&str, &str, &str, &str); 18] = [
+    ("[tennis shoes]", "Tennis SHOES red", "made 1", "page 0"),
+    ("\"tennis shoes\"", "Tennis SHOES red", "made 1", SHOWN),
+    ("shoes tennis", "Tennis SHOES red", "made 1", SHOWN),
+    ("[tennis shoes]", "shoes tennis", "made 1", "page 0"),
+    ("\"tennis shoes\"", "shoes tennis", "made 1", "page 0"),
+    ("shoes tennis", "shoes tennis", "made 1", SHOWN),
+    ("[tennis shoes]", "tennis-shoes!", "made 1", SHOWN),
+    ("\"tennis shoes\"", "tennis-shoes!", "made 1", SHOWN),
+    ("shoes tennis", "tennis-shoes!", "made 1", SHOWN),
+    ("shoes shoes", "shoes", "made 1", SHOWN),
+    (
+        "[CAF\u{C9} STRASSE]",
+        "cafe\u{301} stra\u{DF}e",
+        "made 1",
+        SHOWN,
+    ),
+    ("[]", "a", "refused BadPattern NoWords", "page 0"),
+    ("\"a", "a", "refused BadPattern Unclosed", "page 0"),
+    ("-a", "a", "refused BadPattern Minus", "page 0"),
+    (LETTERS, "a", "refused BadPattern TooLong", "page 0"),
+    (
+        "a b c d e f g h i j k",
+        "a",
+        "refused BadPattern TooMany",
+        "page 0",
+    ),
+    ("  [a b]  ", "a b", "made 1", SHOWN),
+    ("a", WORDS, "made 1", "refused QueryTooMany 33"),
+];
+
+/// 81 letters.
+const LETTERS: &str =
+    "aaaaaaaaabbbbbbbbbcccccccccdddddddddeeeeeeeeefffffffffggggggggghhhhhhhhhiiiiiiiii";
+
+/// 33 words.
+const WORDS: &str = "a b c d e f g h i j k l m n o p q r s t u v w x y z a b c d e f g";
+
+#[test]
+fn a_line_is_shown_where_its_pattern_matches(rt: HostRuntime) -> Result<(), Fail> {
+    for (pattern, query, made, shown) in &PATTERNS {
+        let input = format!(in rt.alloc();
+            "100 account secret01;100 campaign 1 secret01 1000;100 line 1 secret01 1 50 http://s.example/ {pattern} | Shoes;100 search - {query};"
+        )?;
+        let output = format!(in rt.alloc(); "made 1;made 1;{made};{shown};")?;
+        check(
+            &rt,
+            (pattern, "script"),
+            &input,
+            in_pieces(4_096),
+            (0, &output),
+        )?;
     }
     Ok(())
 }
 
 #[test]
-fn a_script_is_answered_by_one_desk(rt: HostRuntime) -> Result<(), Fail> {
+fn a_query_of_1025_letters_is_refused(rt: HostRuntime) -> Result<(), Fail> {
+    let mut lines = String::from_str(rt.alloc(), "100 search - ")?;
+    for _ in 0..1_025 {
+        lines.push('a')?;
+    }
+    check_behind(&rt, &lines, 0, "refused QueryTooLong 1025;")
+}
+
+#[test]
+fn a_search_fills_eight_places(rt: HostRuntime) -> Result<(), Fail> {
+    let mut input = String::new(rt.alloc());
+    let mut output = String::new(rt.alloc());
+    let mut page = String::from_str(rt.alloc(), "page 8")?;
+    for account in 1..=8_u64 {
+        let bid = 90 - 10 * account;
+        let price = if account < 8 { bid - 10 } else { 5 };
+        write!(
+            input,
+            "100 account secret0{account};100 campaign {account} secret0{account} 1000;100 line {account} secret0{account} 1 {bid} http://s.example/ shoes | Shoes;"
+        )?;
+        write!(output, "made {account};made 1;made 1;")?;
+        write!(page, " | {account} {account}.1.1 {price} #{account}")?;
+    }
+    input.push_str("100 search 0 shoes;100 search 8 shoes;")?;
+    write!(output, "refused BadField Places;{page};")?;
     check(
         &rt,
-        "100 negative 1 secret01 1 -\"running shoes\"\n\
-         100 search - red running shoes\n\
-         100 search - running red shoes\n\
-         # passed over, and counted\n\
-         100 drop 1 secret01 1\n\
-         100 drop 1 secret01 1\n\
-         100 negative 1 secret01 1 -\"running shoes\"\n\
-         100 click 1\n\
-         100 campaign 7 secret01 0\n\
-         100 campaign 1 wrongkey 0\n\
-         100 campaign 1 secret01 0\n\
-         100 line 1 secret01 1 50 http://s.example/ shoes | Shoes\n\
-         100 nothing\n\
-         100 click 1\n",
-        8,
-        "made 1\n\
-         page 0\n\
-         page 1 | 1 1.1.1 5 #1\n\
-         done\n\
-         refused NoNegative\n\
-         made 1\n\
-         went http://s.example/\n\
-         refused NoAccount\n\
-         refused BadKey\n\
-         refused BadField Budget\n\
-         refused LineThere 1\n\
-         bad line 16\n",
+        ("eight", "script"),
+        &input,
+        in_pieces(4_096),
+        (0, &output),
     )
-}
-
-#[test]
-fn a_script_ends_with_its_input_or_a_line(rt: HostRuntime) -> Result<(), Fail> {
-    check(&rt, "", 0, "")?;
-    check(&rt, "1899 search 1", 0, "page 0\n")?;
-    check(&rt, "100 host 0\n100 click 1\n", 8, "not built 4\n")?;
-    check(&rt, " 100 click 1\n", 8, "bad line 4\n")
-}
-
-#[test]
-fn a_fault_ends_a_script(rt: HostRuntime) -> Result<(), Fail> {
-    let way = Way {
-        cut: 22,
-        failing_read: 2,
-        failing_write: 0,
-    };
-    let Wrote { status, output } = call(rt.alloc(), &["script"], OPENED.as_bytes(), way)?;
-    assert_eq!(rt; status, 3);
-    assert_eq!(rt; output.bytes(), b"made 1\nread fault\n".as_slice());
-    let way = Way {
-        cut: 4_096,
-        failing_read: 0,
-        failing_write: 1,
-    };
-    let Wrote { status, output } = call(rt.alloc(), &["script"], OPENED.as_bytes(), way)?;
-    assert_eq!(rt; status, 4);
-    assert_eq!(rt; output.bytes(), b"".as_slice());
-    Ok(())
 }

@@ -41,7 +41,8 @@ name_from _ _ _ = None
 -- the name whose parts between dots these are: `ACCOUNT.CAMPAIGN.LINE`
 abbrev pub name_of_parts : List (List ℕ) → Option LineName
 name_of_parts (account ∷ campaign ∷ line ∷ []) =
-    name_from (number_within 1 NUMBER_MAX account) (number_within 1 NUMBER_MAX campaign) (number_within 1 NUMBER_MAX line)
+    name_from (number_within 1 NUMBER_MAX account) (number_within 1 NUMBER_MAX campaign)
+    (number_within 1 NUMBER_MAX line)
 name_of_parts _ = None
 
 -- the parts of a text between its dots

@@ -40,8 +40,8 @@ unfoldable pub auction_page_text : AuctionValue → List ℕ
 auction_page_text auction =
     flat_map (entrant_text auction) (page (entrants auction.ads) auction.heading.places) ++ codes "end\n"
 
--- what is said of an auction, of a fault in the lines, of a failed read, of words that no command has, and of a line of a
--- script whose command has no call yet
+-- what is said of an auction, of a fault in the lines, of a failed read, of words that no command has, and of a line of
+-- a script whose command has no call yet
 abbrev pub page_printout : AuctionValue → Printout
 page_printout auction = record { text = auction_page_text auction; status = ENDED }
 

@@ -22,7 +22,8 @@ pub struct Auction {
 
 /// Reads an auction to the end of the input or to the first line with a fault.
 pub fn read_auction<S: Source>(alloc: Global, input: &mut S) -> Result<Auction, ReadEnd>
-    ensures spelled { IfOk result (λ auction. IfSome (S.source input.old).left (λ bytes. auction_in bytes ≡ Ok (auction_value auction))) }
+    ensures spelled { IfOk result (λ auction.
+        IfSome (S.source input.old).left (λ bytes. auction_in bytes ≡ Ok (auction_value auction))) }
     ensures ended { IfErr result (EndsBy (S.source input.old).left (S.source input.new).left) }
     ensures meets { IfOk result (λ auction. All (MeetsHeading auction.heading) auction.ads.items) }
     ensures all_read { OnOk result (IfSome (S.source input.new).left (λ bytes. bytes ≡ [])) }

@@ -30,7 +30,8 @@ pub struct AdLine {
 impl AdLine {
     /// The name of the ad's line.
     pub fn name(&self) -> LineName
-        ensures { result ≡ record { account = self.now.ad.account; campaign = self.now.ad.campaign; line = self.now.ad.line } }
+        ensures { let ad = self.now.ad in
+            result ≡ record { account = ad.account; campaign = ad.campaign; line = ad.line } }
     {
         LineName {
             account: self.ad.account(),

@@ -21,7 +21,8 @@ use std::alloc::Global;
 /// and answers the status; 4 where a write failed, and 5 for want of memory, before anything is written.
 pub fn say_page<T: Sink>(alloc: Global, output: &mut T, auction: &Auction) -> u8
     requires { All (MeetsHeading auction.now.heading) auction.now.ads.items }
-    ensures written { IsWritten (T.sink output.old) (T.sink output.new) (page_printout (auction_value auction.now)) result }
+    ensures written { IsWritten (T.sink output.old) (T.sink output.new)
+        (page_printout (auction_value auction.now)) result }
     ensures faults { (T.sink output.old).faults ≤ (T.sink output.new).faults }
     ensures source_side { T.source_side output.new ≡ T.source_side output.old }
 {
@@ -49,7 +50,8 @@ fn send_page<T: Sink>(
     requires page { page.now ≡ ranked (entrants auction.now.ads.items) auction.now.heading.places }
     requires each { All (IsRankedAmong auction.now.ads.items) page.now }
     requires different_accounts { AreOfDifferentAccounts (entrants auction.now.ads.items) }
-    ensures sends { Sends (T.sink output.old) (T.sink output.new) (auction_page_text (auction_value auction.now)) result }
+    ensures sends { Sends (T.sink output.old) (T.sink output.new)
+        (auction_page_text (auction_value auction.now)) result }
     ensures source_side { T.source_side output.new ≡ T.source_side output.old }
 {
     let reserve = auction.heading.reserve();
@@ -70,7 +72,8 @@ fn put_entrant<T: Sink>(
     ad: &Ad,
     price: u64,
 ) -> Result<(), WriteFault>
-    ensures puts { Puts (T.sink output.old) (T.sink output.new) out.old out.new (entrant_line place ad.now price) result }
+    ensures puts { Puts (T.sink output.old) (T.sink output.new) out.old out.new
+        (entrant_line place ad.now price) result }
     ensures source_side { T.source_side output.new ≡ T.source_side output.old }
 {
     let pieces = [

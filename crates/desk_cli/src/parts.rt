@@ -8,7 +8,8 @@ use memchr::memchr;
 /// The three parts of a text between its two dots, or `None` where it has another number of dots.
 #[tactic(auto, using(crate::proofs::PartLemmas::parts_some))]
 pub fn three_parts(text: &str) -> Option<(&str, &str, &str)>
-    ensures { MatchOption result (length (parts text.now) ≢ 3) (λ p. parts text.now ≡ p.0.now ∷ p.1.now ∷ p.2.now ∷ []) }
+    ensures { MatchOption result (length (parts text.now) ≢ 3)
+        (λ p. parts text.now ≡ p.0.now ∷ p.1.now ∷ p.2.now ∷ []) }
 {
     let (first, rest) = cut_at_dot(text)?;
     let (second, third) = cut_at_dot(rest)?;
@@ -20,7 +21,8 @@ pub fn three_parts(text: &str) -> Option<(&str, &str, &str)>
 
 /// What stands before the first dot of a text and what stands behind it, or `None` where it has no dot.
 fn cut_at_dot(text: &str) -> Option<(&str, &str)>
-    ensures { MatchOption result (parts text.now ≡ text.now ∷ []) (λ cut. parts text.now ≡ cut.0.now ∷ parts cut.1.now) }
+    ensures { MatchOption result (parts text.now ≡ text.now ∷ [])
+        (λ cut. parts text.now ≡ cut.0.now ∷ parts cut.1.now) }
 {
     let end = memchr(b'.', text.as_bytes())?;
     Some((&text[..end], &text[end + 1..]))

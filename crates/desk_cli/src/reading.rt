@@ -111,28 +111,27 @@ impl AuctionReading {
 
 /// Puts the name of an ad behind the earlier ones.
 ///
-/// It fails where the name stands there already, where it is one too many, or for want of memory.
+/// It fails where the name stands there already, where it is one too many, or for want of memory; the
+/// names are then not used again.
 #[tactic(auto, unfolding(crate::specs::Reading::name_fault))]
 fn note_name(names: &mut IndexSet<LineName>, name: LineName, number: u64) -> Result<(), ReadEnd>
     ensures none { OnOk result (name_fault names.old.keys number name ≡ None) }
     ensures noted { OnOk result (names.new.keys ≡ names.old.keys ++ name ∷ []) }
     ensures fault { IfErr result (IsFault (name_fault names.old.keys number name)) }
 {
-    if names.contains(&name) {
-        return Err(ReadEnd::Fault(LineFault::BadLine(number)));
-    }
-    if names.len() as u64 >= ADS_MAX {
-        return Err(ReadEnd::Fault(LineFault::TooManyLines));
-    }
+    let is_full = names.len() as u64 >= ADS_MAX;
     match names.insert_full(name) {
-        Ok(_) => Ok(()),
+        Ok((_, false)) => Err(ReadEnd::Fault(LineFault::BadLine(number))),
+        Ok((_, true)) if is_full => Err(ReadEnd::Fault(LineFault::TooManyLines)),
+        Ok((_, true)) => Ok(()),
         Err(_) => Err(ReadEnd::NoMemory),
     }
 }
 
 /// Puts an ad behind the earlier ones where it is eligible; else it is left out.
 fn keep(eligible: &mut Vec<Ad>, heading: &Heading, line: &AdLine) -> Result<(), ReadEnd>
-    ensures kept { OnOk result (eligible.new.items ≡ eligible.old.items ++ kept_ads (is_eligible_under heading.now line.now) line.now) }
+    ensures kept { OnOk result
+        (eligible.new.items ≡ eligible.old.items ++ kept_ads (is_eligible_under heading.now line.now) line.now) }
     ensures same { OnErr result (eligible.new.items ≡ eligible.old.items) }
     ensures ended { IfErr result (λ end. end ≡ ReadEnd.NoMemory) }
 {

@@ -12,7 +12,8 @@ use std::alloc::Global;
 
 /// Writes a text by its pieces and answers the status; 4 where a write failed, and 5 for want of memory.
 pub fn say<T: Sink>(alloc: Global, output: &mut T, pieces: &[Piece], status: u8) -> u8
-    ensures written { IsWritten (T.sink output.old) (T.sink output.new) (record { text = text_of pieces.now; status = status }) result }
+    ensures written { IsWritten (T.sink output.old) (T.sink output.new)
+        (record { text = text_of pieces.now; status = status }) result }
     ensures faults { (T.sink output.old).faults ≤ (T.sink output.new).faults }
     ensures source_side { T.source_side output.new ≡ T.source_side output.old }
 {

@@ -25,7 +25,7 @@ use std::alloc::Global;
 /// |---|---|---|
 /// | 0 | the input is an auction, or a script that no line ends | - |
 /// | 2 | the words are neither the one word `auction` nor the one word `script` | `words refused` |
-/// | 3 | a read failed, and no line read before ends the auction or the script: the input's count of faults rose | `read fault` |
+/// | 3 | a read failed behind no line that ends it: the input's count of faults rose | `read fault` |
 /// | 4 | a write failed: the output's count of faults rose | - |
 /// | 5 | want of memory, other than in a call of the desk | - |
 /// | 8 | a line in no form, or the end before the heading of an auction | `bad line K` |

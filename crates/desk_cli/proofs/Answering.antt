@@ -1,6 +1,6 @@
 -- What is answered.
 use Rattle.std.proofs.Common.{◌≡◌, ◌≢◌, ℕ, List, [], ◌∷◌, length, map, get_or, Bool, arith, refl, sym, ◌∙◌, ap, inl, inr}
-use Rattle.std.specs.Prelude.{Option, Some, None, IfSome, Result, Ok, Err, bytes_eq, IsTrue}
+use Rattle.std.specs.Prelude.{Option, Some, None, IfSome, Result, Err, bytes_eq, IsTrue}
 use Rattle.std.proofs.lemmas.Slice.Eq.{bytes_eq-Decides}
 use Rattle.desk_io.specs.SinkView.{SinkView}
 use Rattle.desk_io.specs.SourceView.{SourceView}

@@ -1,5 +1,5 @@
 -- Bytes that are put and then sent, and what is answered.
-use Rattle.std.proofs.Common.{◌≡◌, ℕ, ◌≤◌, List, [], ◌++◌, Result, Ok, Err, IsErr, subst, sym, inl, inr, refl, ◌∙◌, arith}
+use Rattle.std.proofs.Common.{◌≡◌, ℕ, ◌≤◌, List, [], ◌++◌, Result, Ok, Err, IsErr, subst, arith}
 use Rattle.desk_io.specs.Faults.{Rose}
 use Rattle.desk_io.specs.Putting.{SendsFront, BreaksOff, Sends, Flushes, Puts}
 use Rattle.desk_io.specs.SinkView.{SinkView}

@@ -1,10 +1,8 @@
 -- Throughout a desk's history the budgets hold and the pages are priced.
-use Rattle.std.proofs.Common.{◌≡◌, ℕ, List, Option, sym, subst}
+use Rattle.std.proofs.Common.{◌≡◌, List, sym, subst}
 use Rattle.desk_types.specs.declared.call.Call.{Call}
-use Rattle.desk_types.specs.declared.call.Call.TheVariants.{Search}
 use Rattle.desk_types.specs.declared.entry.Entry.{Entry}
 use Rattle.desk_types.specs.declared.reply.Reply.TheVariants.{Page}
-use Rattle.desk_types.specs.declared.reply.Spot.{Spot}
 use Rattle.desk_types.specs.LedgerLaws.{IsPageAnswered}
 use Rattle.desk_types.specs.Run.{run}
 use Rattle.desk_types.specs.State.{State, empty}

@@ -1,5 +1,5 @@
 -- The turns of the loop that reads an auction.
-use Rattle.std.proofs.Common.{◌≡◌, ℕ, ◌+◌, Bool, true, false, List, [], ◌∷◌, ◌++◌, Option, Some, None, IfSome, Result, Ok, Err, refl, sym, ap, subst, ◌∙◌, append-nil}
+use Rattle.std.proofs.Common.{◌≡◌, ℕ, Bool, true, false, List, [], ◌∷◌, ◌++◌, Option, Some, None, IfSome, Result, Ok, Err, refl, sym, ap, ◌∙◌, append-nil}
 use Rattle.std.specs.Prelude.{not}
 use Rattle.std.specs.Option.{option_map}
 use Rattle.desk_io.specs.Lines.{has_line_feed, lines}
@@ -7,11 +7,10 @@ use Rattle.desk_io.specs.NumberedLines.{is_skipped, NumberedText, ToldLines, tex
 use Rattle.desk_io.specs.NumberedValue.{NumberedValue}
 use Rattle.desk_io.specs.declared.numbered_lines.LineFault.{LineFault}
 use Rattle.desk_io.proofs.ReadSoFar.{read-none, read-line, read-last, read-through, read-all, read-cut_off, texts_of-spoken, texts_of-skipped}
-use Rattle.desk_cli.specs.declared.auction.Auction.{Auction}
 use Rattle.desk_cli.specs.declared.fault.ReadEnd.{ReadEnd}
 use Rattle.desk_cli.specs.declared.fault.ReadEnd.TheVariants.{Fault, ReadFault, NoMemory}
-use Rattle.desk_cli.specs.Ending.{auction_value, IsCutOff, Gives, EndsBy, IsReading, IsAllRead, Goes}
-use Rattle.desk_cli.specs.Reading.{SoFar, AuctionValue, nothing_yet, take_text, and_then, take_texts, auction_at, auction_from, spelled_by, auction_in}
+use Rattle.desk_cli.specs.Ending.{IsCutOff, Gives, EndsBy, IsReading, Goes}
+use Rattle.desk_cli.specs.Reading.{SoFar, nothing_yet, take_text, and_then, take_texts, auction_at, spelled_by, auction_in}
 
 -- texts are taken one after another
 and_then-and_then : {B : Type 0} (taken : Result SoFar LineFault) (f : SoFar → Result B LineFault) (g : SoFar → Result B LineFault) (h : SoFar → Result SoFar LineFault) →

@@ -3,7 +3,6 @@ use Rattle.std.specs.Prelude.{◌≡◌, ℕ, Bool, true, false, List, Option, S
 use Rattle.desk_io.specs.Faults.{Rose}
 use Rattle.desk_io.specs.NumberedLines.{NumberedText, AreCutOff, ReadSoFar}
 use Rattle.desk_io.specs.NumberedValue.{NumberedValue}
-use Rattle.desk_io.specs.SourceView.{SourceView}
 use Rattle.desk_io.specs.declared.numbered_lines.LineFault.{LineFault}
 use Rattle.desk_cli.specs.declared.fault.ReadEnd.{ReadEnd}
 use Rattle.desk_cli.specs.declared.fault.ReadEnd.TheVariants.{Fault, ReadFault, NoMemory}

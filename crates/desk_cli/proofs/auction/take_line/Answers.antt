@@ -1,4 +1,4 @@
-use Rattle.std.proofs.Common.{◌≡◌, ◌∙◌, ◌∷◌, [], Bool, true, false, Ok, Err, ap, sym}
+use Rattle.std.proofs.Common.{◌∙◌, Ok, Err, sym}
 use Rattle.std.proofs.lemmas.Result.{err_from_is_err_and}
 use Rattle.desk_io.proofs.ReadSoFar.{step-last}
 use Rattle.desk_cli.proofs.Turns.{goes, spoken, ends-there, cut-off, taken-spoken, taken-skipped, not-last}

@@ -1,4 +1,4 @@
-use Rattle.std.proofs.Common.{refl, subst, IfSome, inl, inr, Ok, Err}
+use Rattle.std.proofs.Common.{refl, subst, inr, Ok, Err}
 use Rattle.desk_cli.specs.Ending.{auction_value, EndsBy}
 use Rattle.desk_cli.specs.Printout.{fault_printout, page_printout}
 use Rattle.desk_cli.proofs.Answering.{fault_status-not_0, nothing-written, some_judged, written-not_0}

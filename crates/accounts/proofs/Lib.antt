@@ -1,0 +1,13 @@
+pub mod Joined
+pub mod Places
+pub mod Numbered
+pub mod Shelves
+pub mod Finds
+pub mod Tables
+pub mod Rows
+pub mod AtHomes
+pub mod Negatives
+pub mod ReadingRows
+pub mod Committing
+pub mod Rooms
+pub mod Asking

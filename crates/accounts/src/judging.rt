@@ -1,0 +1,6 @@
+//! The judging of edits.
+
+mod accounts;
+pub(crate) mod lines;
+mod negatives;
+mod owners;

@@ -1,0 +1,92 @@
+//! The judging of accounts, campaigns and switches.
+
+ghost use Rattle.std.specs.Prelude.{◌≡◌, ℕ, ◌+◌, [], ◌∷◌, None, IfErr, IfOk, OnOk};
+ghost use Rattle.desk_types.specs.declared.call.Call.{Call};
+ghost use Rattle.desk_types.specs.declared.tables.Tables.{Tables};
+ghost use Rattle.desk_types.specs.Judged.{campaign_row};
+ghost use Rattle.accounts.specs.Planned.{IsFirst, IsPlanned, IsStop, state_on};
+ghost use Rattle.accounts.specs.Shelved.{HasShelf};
+
+use crate::book::Book;
+use crate::plan::{EditFault, Plan, when};
+use crate::shelf::Shelf;
+use desk_types::limits::{ACCOUNTS_MAX, BUDGET_MAX, BUDGET_MIN, CAMPAIGNS_MAX};
+use desk_types::{Account, BudgetSet, Campaign, Change, Field, Refusal, Reply, is_key};
+use query_words::{List, Text, Twin};
+use std::alloc::{AllocError, Global};
+
+impl Book {
+    /// Plans an account.
+    #[tactic(auto, unfolding(desk_types::specs::Judged::refusals, desk_types::specs::Changes::changes, desk_types::specs::Changes::reply))]
+    pub(crate) fn plan_account(&self, key: &Text) -> Result<Plan, EditFault>
+        ensures planned { (m : ℕ) → IfOk result (IsPlanned (state_on self.now.tables m) (Call.AddAccount key.now)) }
+        ensures stopped { (m : ℕ) → IfErr result (IsStop (state_on self.now.tables m) (Call.AddAccount key.now)) }
+    {
+        when(!is_key(key.as_str()), Refusal::BadField(Field::Key))?;
+        when(self.count() >= ACCOUNTS_MAX, Refusal::AccountsFull)?;
+        let number = self.count() + 1;
+        let account = Account {
+            number,
+            key: key.twin()?,
+            suspended: false,
+        };
+        Ok(Plan::one(
+            self.alloc(),
+            Change::PutAccount(account),
+            Reply::Made(number),
+        )?)
+    }
+
+    /// Plans a campaign, which is on from the start, with the budget of its first day.
+    #[tactic(auto, unfolding(desk_types::specs::Judged::refusals, desk_types::specs::Changes::changes, desk_types::specs::Changes::reply))]
+    pub(crate) fn plan_campaign(
+        &self,
+        account: u64,
+        key: &Text,
+        budget: u64,
+        moment: u64,
+    ) -> Result<Plan, EditFault>
+        ensures planned { IfOk result
+            (IsPlanned (state_on self.now.tables moment) (Call.AddCampaign account key.now budget)) }
+        ensures stopped { (m : ℕ) → IfErr result
+            (IsStop (state_on self.now.tables m) (Call.AddCampaign account key.now budget)) }
+    {
+        let shelf = self.owner(account, key)?;
+        when(
+            !(BUDGET_MIN..=BUDGET_MAX).contains(&budget),
+            Refusal::BadField(Field::Budget),
+        )?;
+        when(
+            shelf.count_campaigns() >= CAMPAIGNS_MAX,
+            Refusal::CampaignsFull,
+        )?;
+        let number = shelf.count_campaigns() + 1;
+        let campaign = Campaign {
+            account,
+            number,
+            on: true,
+        };
+        let setting = BudgetSet {
+            account,
+            campaign: number,
+            at: moment,
+            amount: budget,
+        };
+        let changes = put_both(self.alloc(), campaign, setting)?;
+        Ok(Plan {
+            changes: List::from_vec(changes),
+            reply: Reply::Made(number),
+        })
+    }
+}
+
+/// The changes that put a campaign and its budget setting.
+fn put_both(
+    alloc: Global,
+    campaign: Campaign,
+    setting: BudgetSet,
+) -> Result<Vec<Change>, AllocError>
+    ensures { IfOk result (λ changes. changes.items ≡ Change.PutCampaign campaign ∷ Change.PutBudget setting ∷ []) }
+{
+    Ok(vec![in alloc; Change::PutCampaign(campaign), Change::PutBudget(setting)]?)
+}

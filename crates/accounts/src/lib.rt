@@ -1,0 +1,21 @@
+//! The catalogue of a desk: accounts, campaigns, budget settings, lines, negatives and batches, and their edits.
+//! `Book::judge` gives the changes and the reply of an edit, or its first refusal, as the ledger does, `Book::make_room` takes
+//! the memory for them, and `Book::commit` puts them. Rows are kept for each account by their numbers.
+//! It stands on `desk_types` for rows, calls and definitions, on `match_types` and `query_words` for patterns and texts.
+//! Placements, searches and the journal are left to the crates above.
+#![tactic(auto)]
+
+mod book;
+mod commit;
+mod judging;
+pub mod keyed;
+pub mod laws;
+mod plan;
+mod searching;
+mod shelf;
+
+pub use book::Book;
+pub use plan::{EditFault, Plan};
+
+#[cfg(test)]
+mod tests;

@@ -1,3 +1,5 @@
 mod FirstsLemmas
 mod NextsLemmas
 mod RankedLemmas
+mod Offers
+mod WithAd

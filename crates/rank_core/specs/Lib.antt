@@ -1,3 +1,3 @@
-pub mod Firsts
 pub mod Nexts
 pub mod Ranked
+pub mod Top

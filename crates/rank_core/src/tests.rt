@@ -1,12 +1,12 @@
 use super::*;
-use desk_types::Ad;
+use auction_types::Ad;
 use std::process::Abort;
 use std::test::Fail;
 
 #[test]
 fn the_page_has_the_best_ad_of_each_account(rt: HostRuntime) -> Result<(), Fail> {
     // Ads are account, line, bid and quality; places are the account and the one next below, or 0.
-    let cases: [(&str, &[(u64, u64, u64, u64)], u64, &[(u64, u64)]); 6] = [
+    let cases: [(&str, &[(u64, u64, u64, u64)], u64, &[(u64, u64)]); 7] = [
         (
             "by score",
             &[(3, 1, 50, 12), (1, 1, 100, 10), (2, 1, 80, 10)],
@@ -30,6 +30,12 @@ fn the_page_has_the_best_ad_of_each_account(rt: HostRuntime) -> Result<(), Fail>
             &[(1, 1, 100, 10), (1, 2, 90, 10)],
             4,
             &[(1, 0)],
+        ),
+        (
+            "a better ad of an account takes its place",
+            &[(1, 1, 50, 10), (2, 1, 60, 10), (1, 2, 70, 10)],
+            4,
+            &[(1, 2), (2, 0)],
         ),
         ("nobody", &[], 4, &[]),
         (
@@ -64,7 +70,7 @@ fn the_page_has_the_best_ad_of_each_account(rt: HostRuntime) -> Result<(), Fail>
         for ad in ads {
             list.push(ad_of(&rt, *ad))?;
         }
-        let page = page_of(rt.alloc(), &list, places)?;
+        let page = page_of(&list, places);
         let mut accounts = Vec::new(rt.alloc());
         for ranked in page.as_slice() {
             accounts.push((ranked.ad.account(), account_or_0(ranked.next)))?;

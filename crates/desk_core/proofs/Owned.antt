@@ -10,7 +10,7 @@ use Rattle.accounts.proofs.Joined.{any-group, find-group}
 use Rattle.desk_types.specs.declared.rows.BudgetSet.{BudgetSet}
 use Rattle.desk_types.specs.declared.rows.Line.{Line}
 use Rattle.desk_types.specs.declared.rows.Negative.{Negative}
-use Rattle.desk_types.specs.AdValue.{AdValue, IsInRange}
+use Rattle.auction_types.specs.AdValue.{AdValue, IsInRange}
 use Rattle.desk_types.specs.Day.{day_of}
 use Rattle.desk_types.specs.Eligible.{ad_of, is_eligible, is_kept_out, is_matched}
 use Rattle.desk_types.specs.Money.{budget, is_latest, is_set_by}

@@ -2,11 +2,12 @@
 
 ghost use Rattle.std.specs.Prelude.{◌≡◌, ◌==◌, ◌&&◌, ◌++◌, filter, map, All, IfOk, OnOk};
 ghost use Rattle.std.specs.List.{list_any};
-ghost use Rattle.desk_types.specs.AdValue.{IsInRange};
+ghost use Rattle.auction_types.specs.AdValue.{IsInRange};
 ghost use Rattle.desk_types.specs.Eligible.{ad_of, eligible_ads, has_active_account, has_active_campaign, is_candidate, is_eligible, is_kept_out, is_matched, meets_floor, meets_reserve};
 
 use crate::ledger::Ledger;
-use desk_types::{Ad, Line, Negative};
+use auction_types::Ad;
+use desk_types::{Line, Negative};
 use match_types::{Pattern, matches};
 use query_words::Words;
 use std::alloc::AllocError;

@@ -1,4 +1,3 @@
-pub mod AdValue
 pub mod Changes
 pub mod Day
 pub mod Eligible
@@ -6,12 +5,8 @@ pub mod Fields
 pub mod Journal
 pub mod Judged
 pub mod Keys
-pub mod Laws
 pub mod LedgerLaws
 pub mod Money
-pub mod Order
-pub mod Page
-pub mod Price
 pub mod Refusal
 pub mod Run
 pub mod Serving

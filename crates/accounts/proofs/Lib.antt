@@ -11,3 +11,4 @@ pub mod ReadingRows
 pub mod Committing
 pub mod Rooms
 pub mod Asking
+pub mod Changing

@@ -11,6 +11,7 @@ mod judging;
 pub mod keyed;
 pub mod laws;
 mod plan;
+pub mod raising;
 mod searching;
 mod shelf;
 

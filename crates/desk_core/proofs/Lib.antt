@@ -8,7 +8,7 @@ pub mod Pages
 pub mod Placing
 pub mod Reached
 pub mod Searching
-pub mod Tables
-pub mod Telling
-pub mod Places
-pub mod Rooms
+pub mod Settled
+pub mod Placements
+pub mod Besides
+pub mod Owned

@@ -1,17 +1,19 @@
 -- The edition of each state that is reached, and the state after an accepted call.
-use Rattle.std.proofs.Common.{◌≡◌, ℕ, ◌+◌, ◌≤◌, Bool, true, false, Option, None, Some, List, [], ◌∷◌, length, ap, ◌∙◌, arith}
+use Rattle.std.proofs.Common.{◌≡◌, ℕ, ◌+◌, ◌≤◌, Bool, true, false, Option, None, Some, List, [], ◌∷◌, length, sym, ap, subst, ◌∙◌, arith}
 use Rattle.desk_types.specs.declared.call.Call.{Call}
 use Rattle.desk_types.specs.declared.entry.Entry.{Entry}
 use Rattle.desk_types.specs.declared.entry.Outcome.{Outcome}
 use Rattle.desk_types.specs.declared.entry.Outcome.TheVariants.{Answered, Faulted}
 use Rattle.desk_types.specs.declared.refusal.Refusal.{Refusal}
-use Rattle.desk_types.specs.declared.tables.Change.{Change}
-use Rattle.desk_types.specs.Changes.{changes, raises_edition}
+use Rattle.desk_types.specs.Changes.{raises_edition}
 use Rattle.desk_types.specs.Judged.{judged}
 use Rattle.desk_types.specs.Run.{after, run}
 use Rattle.desk_types.specs.State.{State}
 use Rattle.desk_types.specs.Step.{accepted, answered, at_moment, next_edition, step}
 use Rattle.desk_types.specs.Tables.{put_all}
+use Rattle.desk_core.specs.declared.plan.Plan.{Plan}
+use Rattle.desk_core.specs.Planned.{IsPlanned, changes_catalogue, listed}
+use Rattle.desk_core.specs.Told.{IsThere, replied}
 
 next_low : (rises : Bool) (edition : ℕ) → next_edition rises edition ≤ edition + 1
 next_low true edition = omega arith
@@ -33,10 +35,21 @@ unfolding run
 edition_reached S [] = omega arith
 edition_reached S (e ∷ entries) = omega (arith, edition_after S e.moment e.call e.outcome, edition_reached (after S e.moment e.call e.outcome) entries)
 
--- the state where the changes of an accepted call are put, and the edition raised where it rises
-pub accepted_is : (S T left : State) (call : Call) (list : List Change) (rises : Bool) → T ≡ record S { tables = put_all S.tables list } → list ≡ changes S call → rises ≡ raises_edition S call
-    → left ≡ record T { edition = next_edition rises T.edition } → left ≡ accepted S call
+-- the state where the changes of a plan are put is the one after the accepted call, and the reply is told there
+pub accepted_is : (S left : State) (call : Call) (plan : Plan) → IsPlanned S call plan
+    → left ≡ record S { edition = next_edition (changes_catalogue plan.changes) S.edition; tables = put_all S.tables (listed plan.changes) } → left ≡ accepted S call
 unfolding accepted
-accepted_is S T left call list rises put planned raised is =
-    is ∙ ap (λ (U : State). record U { edition = next_edition rises U.edition }) put
-    ∙ (λ i. record S { edition = next_edition (raised i) S.edition; tables = put_all S.tables (planned i) })
+accepted_is S left call plan h is = is ∙ (λ i. record S { edition = next_edition (h.raised i) S.edition; tables = put_all S.tables (h.changed i) })
+
+pub answered_is : (S left : State) (call : Call) (plan : Plan) → IsPlanned S call plan
+    → left ≡ record S { edition = next_edition (changes_catalogue plan.changes) S.edition; tables = put_all S.tables (listed plan.changes) } → left ≡ (answered S call (judged S call)).state
+answered_is S left call plan h is = accepted_is S left call plan h is ∙ ap (λ judgement. (answered S call judgement).state) (sym h.not_refused)
+
+pub told_of : (S left : State) (call : Call) (plan : Plan) → IsPlanned S call plan
+    → left ≡ record S { edition = next_edition (changes_catalogue plan.changes) S.edition; tables = put_all S.tables (listed plan.changes) } → replied left.tables plan.told ≡ (answered S call (judged S call)).reply
+told_of S left call plan h is =
+    ap (λ (T : State). replied T.tables plan.told) is ∙ h.told ∙ ap (λ judgement. (answered S call judgement).reply) (sym h.not_refused)
+
+pub there_of : (S left : State) (call : Call) (plan : Plan) → IsPlanned S call plan
+    → left ≡ record S { edition = next_edition (changes_catalogue plan.changes) S.edition; tables = put_all S.tables (listed plan.changes) } → IsThere left.tables plan.told
+there_of S left call plan h is = subst (λ (T : State). IsThere T.tables plan.told) (sym is) h.there

@@ -1,16 +1,25 @@
 -- The refusals of a search, in order.
-use Rattle.std.proofs.Common.{◌≡◌, ℕ, ◌+◌, ◌<◌, ◌≤◌, true, false, Option, None, Some, List, [], ◌∷◌, length, ◌∙◌, arith}
+use Rattle.std.proofs.Common.{◌≡◌, ℕ, ◌+◌, ◌<◌, ◌≤◌, Bool, true, false, Option, None, Some, List, [], ◌∷◌, length, refl, ◌∙◌, arith}
 use Rattle.std.specs.Prelude.{nat_le, nat_lt}
 use Rattle.std.proofs.lemmas.Bool.Decides.{nat_tests}
 use Rattle.query_words.specs.declared.cut.TheConstants.{QUERY_BYTES, QUERY_WORDS}
 use Rattle.query_words.specs.Limits.{IsWithinLimits}
 use Rattle.query_words.specs.Words.{words_of}
 use Rattle.desk_types.specs.declared.call.Call.TheVariants.{Search}
+use Rattle.desk_types.specs.declared.refusal.Refusal.{Refusal}
 use Rattle.desk_types.specs.declared.refusal.Refusal.TheVariants.{BadField, PlacementsFull, QueryTooLong, QueryTooMany}
 use Rattle.desk_types.specs.declared.refusal.Field.TheVariants as field
 use Rattle.desk_types.specs.Judged.{first, is_bad_places, judged, page_of, refusals, when}
 use Rattle.desk_types.specs.State.{State}
-use Rattle.desk_core.proofs.Tables.{first_holds, first_fails}
+
+-- a row that holds gives its refusal, and one that does not leaves the rest
+first_holds : (test : Bool) (refused : Refusal) (later : List (Option Refusal)) → test ≡ true → first (when test refused ∷ later) ≡ Some refused
+first_holds true refused later h = refl
+first_holds false refused later h = absurd cc
+
+first_fails : (test : Bool) (refused : Refusal) (later : List (Option Refusal)) → test ≡ false → first (when test refused ∷ later) ≡ first later
+first_fails true refused later h = absurd cc
+first_fails false refused later h = refl
 
 short_passes : (text : List ℕ) → length text ≤ QUERY_BYTES → nat_lt QUERY_BYTES (length text) ≡ false
 short_passes text h = grind (arith, nat_tests)

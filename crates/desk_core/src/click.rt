@@ -1,12 +1,12 @@
 //! Clicks.
 
-ghost use Rattle.std.specs.Prelude.{◌≡◌, ◌≢◌, Some, IfErr, IfOk};
+ghost use Rattle.std.specs.Prelude.{◌≡◌, Some, IfErr, IfOk, IsTrue};
 ghost use Rattle.std.specs.Option.{option_copied};
 ghost use Rattle.desk_types.specs.declared.call.Call.{Call};
 ghost use Rattle.desk_types.specs.Changes.{settlement};
 ghost use Rattle.desk_types.specs.Sound.{IsSound};
 ghost use Rattle.desk_types.specs.Tables.{placement_of};
-ghost use Rattle.desk_core.specs.Planned.{IsPlanned, IsStop, listed};
+ghost use Rattle.desk_core.specs.Planned.{IsPlanned, IsStop, TakesNoMemory, listed, needs_no_room};
 
 use crate::ledger::Ledger;
 use crate::money::is_escrowed;
@@ -23,7 +23,7 @@ impl Ledger {
         requires sound { IsSound self.now.state }
         ensures planned { IfOk result (IsPlanned self.now.state (Call.Click placement)) }
         ensures stopped { IfErr result (IsStop self.now.state (Call.Click placement)) }
-        ensures no_memory { IfErr result (λ stop. stop ≢ Stop.NoMemory) }
+        ensures no_memory { TakesNoMemory result }
     {
         let Some(found) = self.placement_of(placement) else {
             return Err(Stop::Refused(Refusal::NoPlacement));
@@ -47,7 +47,8 @@ impl Ledger {
 
 /// What a click on a placement changes at a moment.
 fn settlement(moment: u64, found: &Placement) -> Changes
-    ensures { listed result ≡ settlement moment (Some found.now) }
+    ensures settles { listed result ≡ settlement moment (Some found.now) }
+    ensures no_room { IsTrue (needs_no_room result) }
 {
     if !is_escrowed(found, moment) {
         return Changes::Nothing;

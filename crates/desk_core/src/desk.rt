@@ -123,10 +123,10 @@ fn answer(ledger: &mut Ledger, journal: &mut Journal, call: &Call) -> Result<Tol
     match planned {
         Ok(plan) => {
             ledger.make_room(&plan.changes)?;
-            ledger.accept(call, plan.changes);
+            ledger.accept(plan.changes);
             Ok(plan.told)
         }
-        Err(Stop::Refused(refusal)) => Ok(Told::Refused(refusal)),
+        Err(Stop::Refused(refusal)) => Ok(Told::Said(Reply::Refused(refusal))),
         Err(Stop::NoMemory) => Err(AllocError),
     }
 }

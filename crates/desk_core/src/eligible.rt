@@ -1,29 +1,42 @@
 //! Which lines compete for a query.
 
-ghost use Rattle.std.specs.Prelude.{◌≡◌, ◌==◌, ◌&&◌, not, All, IfOk};
+ghost use Rattle.std.specs.Prelude.{◌≡◌, ◌==◌, ◌&&◌, ◌++◌, filter, map, All, IfOk, OnOk};
+ghost use Rattle.std.specs.List.{list_any};
 ghost use Rattle.auction_types.specs.AdValue.{IsInRange};
 ghost use Rattle.desk_types.specs.Eligible.{ad_of, eligible_ads, has_active_account, has_active_campaign, is_candidate, is_eligible, is_kept_out, is_matched, meets_floor, meets_reserve};
 
 use crate::ledger::Ledger;
 use auction_types::Ad;
-use desk_types::{Account, Campaign, Line, Negative};
+use desk_types::{Line, Negative};
 use match_types::{Pattern, matches};
 use query_words::Words;
 use std::alloc::AllocError;
 
 impl Ledger {
-    /// The lines that compete for the words of a query, as ads.
+    /// The lines that compete for the words of a query, as ads: those of one account after another.
     pub(crate) fn eligible_ads(&self, query: &Words) -> Result<Vec<Ad>, AllocError>
         requires { All (λ l. IsInRange (ad_of l)) self.now.state.tables.lines }
         ensures { IfOk result (λ ads. ads.items ≡ eligible_ads self.now.state query.now) }
     {
-        let mut ads = Vec::new(*self.lines.allocator());
-        for line in &self.lines {
+        let mut ads = Vec::new(self.alloc());
+        for before in 0..self.book.count() {
+            self.push_eligible(query, self.book.lines(before + 1), &mut ads)?;
+        }
+        Ok(ads)
+    }
+
+    /// Puts those of some lines that compete for the words of a query behind other ads.
+    fn push_eligible(&self, query: &Words, lines: &[Line], ads: &mut Vec<Ad>) -> Result<(), AllocError>
+        requires { All (λ l. IsInRange (ad_of l)) lines.now }
+        ensures { OnOk result (ads.new.items
+            ≡ ads.old.items ++ map ad_of (filter (is_eligible self.now.state query.now) lines.now)) }
+    {
+        for line in lines {
             if self.is_eligible(query, line) {
                 ads.push(ad_of(line))?;
             }
         }
-        Ok(ads)
+        Ok(())
     }
 
     /// Whether a line competes for the words of a query.
@@ -53,27 +66,21 @@ impl Ledger {
     fn has_active_account(&self, line: &Line) -> bool
         ensures { result ≡ has_active_account self.now.state line.now }
     {
-        self.accounts
-            .iter()
-            .any(|account| is_active_account(account, line))
+        self.book.is_active_account(line.account)
     }
 
     /// Whether its campaign is there and on.
     fn has_active_campaign(&self, line: &Line) -> bool
         ensures { result ≡ has_active_campaign self.now.state line.now }
     {
-        self.campaigns
-            .iter()
-            .any(|campaign| is_active_campaign(campaign, line))
+        self.book.is_active_campaign(line.account, line.campaign)
     }
 
     /// Whether a live negative of its campaign matches the query.
     fn is_kept_out(&self, query: &Words, line: &Line) -> bool
         ensures { result ≡ is_kept_out self.now.state query.now line.now }
     {
-        self.negatives
-            .iter()
-            .any(|negative| keeps_out(negative, query, line))
+        keep_out(self.book.negatives(line.account), query, line.campaign)
     }
 
     /// Whether its bid is at least the reserve.
@@ -109,31 +116,22 @@ fn ad_of(line: &Line) -> Ad
     }
 }
 
-/// Whether an account is that of the line, and not suspended.
-fn is_active_account(account: &Account, line: &Line) -> bool
-    ensures { result ≡ (account.now.number == line.now.account && not account.now.suspended) }
+/// Whether one of these negatives is a live one of this campaign that matches the query.
+fn keep_out(negatives: &[Negative], query: &Words, campaign: u64) -> bool
+    ensures { result ≡ list_any (λ n. n.campaign == campaign && (n.live && is_matched n.pattern query.now))
+        negatives.now }
 {
-    account.number == line.account && !account.suspended
+    negatives
+        .iter()
+        .any(|negative| keeps_out(negative, query, campaign))
 }
 
-/// Whether a campaign is that of the line, and on.
-fn is_active_campaign(campaign: &Campaign, line: &Line) -> bool
-    ensures { result ≡ (campaign.now.account == line.now.account
-        && (campaign.now.number == line.now.campaign && campaign.now.on)) }
+/// Whether a negative is a live one of this campaign that matches the query.
+fn keeps_out(negative: &Negative, query: &Words, campaign: u64) -> bool
+    ensures { result ≡ (negative.now.campaign == campaign
+        && (negative.now.live && is_matched negative.now.pattern query.now)) }
 {
-    campaign.account == line.account && campaign.number == line.campaign && campaign.on
-}
-
-/// Whether a negative is a live one of the line's campaign that matches the query.
-fn keeps_out(negative: &Negative, query: &Words, line: &Line) -> bool
-    ensures { result ≡ (negative.now.account == line.now.account
-        && (negative.now.campaign == line.now.campaign
-        && (negative.now.live && is_matched negative.now.pattern query.now))) }
-{
-    negative.account == line.account
-        && negative.campaign == line.campaign
-        && negative.live
-        && is_matched(&negative.pattern, query)
+    negative.campaign == campaign && negative.live && is_matched(&negative.pattern, query)
 }
 
 /// Whether a pattern matches the words of a query.

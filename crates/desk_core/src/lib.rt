@@ -1,21 +1,18 @@
 //! The desk: one ledger, asked one call after another, and the journal of its calls.
 //! `Desk::call` gives the ledger's answer and puts the call's entry; `Solo` is a desk that serves one caller.
-//! It stands on `desk_types` for the definitions, on `rank_core` and `gsp_price` for pages and prices.
+//! It stands on `desk_types` for the definitions, on `accounts` for the catalogue and its edits, on `rank_core` and
+//! `gsp_price` for pages and prices.
 //! Where calls come from, and how they are read and answered, is left to the crates above.
 #![tactic(auto)]
 
-mod accounts;
 mod click;
 mod desk;
+mod edit;
 mod eligible;
-mod finds;
 mod journal;
-mod keyed;
 mod ledger;
-mod lines;
 mod lookup;
 mod money;
-mod negatives;
 mod plan;
 mod putting;
 mod search;

@@ -1,7 +1,6 @@
 //! The lines of a desk by their numbers.
 
 ghost use Rattle.std.specs.Prelude.{◌≡◌, IsTrue, is_some};
-ghost use Rattle.std.specs.Option.{option_copied};
 ghost use Rattle.desk_types.specs.Tables.{line_of};
 
 use crate::ledger::Ledger;
@@ -13,18 +12,9 @@ impl Ledger {
         requires { IsTrue (is_some (line_of self.now.state.tables account line)) }
         ensures { line_of self.now.state.tables account line ≡ Some result.now }
     {
-        match self.line_of(account, line) {
+        match self.book.line(account, line) {
             Some(line) => line,
             None => unreachable!(),
         }
-    }
-
-    /// The line of an account and a number, if there is one.
-    fn line_of(&self, account: u64, line: u64) -> Option<&Line>
-        ensures { option_copied result ≡ line_of self.now.state.tables account line }
-    {
-        self.lines
-            .iter()
-            .find(|l| l.account == account && l.number == line)
     }
 }

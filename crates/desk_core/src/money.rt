@@ -38,7 +38,7 @@ impl Ledger {
     fn budget(&self, of: CampaignDay) -> u64
         ensures { result ≡ budget self.now.state of.account of.campaign of.day }
     {
-        latest_amount(&self.budgets, of)
+        latest_amount(self.book.budgets(of.account), of)
     }
 
     /// What is spent or escrowed of it, in cents.

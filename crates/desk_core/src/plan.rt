@@ -1,12 +1,8 @@
 //! What an accepted call changes, and what it replies.
 
-ghost use Rattle.std.specs.Prelude.{◌≡◌, [], ◌∷◌, IfOk};
-ghost use Rattle.desk_core.specs.Planned.{listed};
-
 use crate::told::Told;
-use desk_types::{Change, Fate};
+use desk_types::{Change, Fate, Placement};
 use query_words::List;
-use std::alloc::{AllocError, Global};
 
 /// What an accepted call changes, and what it replies.
 #[derive(Drop)]
@@ -29,28 +25,8 @@ pub enum Changes {
         /// What became of it.
         fate: Fate,
     },
-    /// There are these.
-    Several(List<Change>),
-}
-
-impl Plan {
-    /// One change.
-    pub fn one(alloc: Global, change: Change, told: Told) -> Result<Plan, AllocError>
-        ensures changes { IfOk result (λ plan. listed plan.changes ≡ change ∷ []) }
-        ensures told { IfOk result (λ plan. plan.told ≡ told) }
-    {
-        Ok(Plan {
-            changes: Changes::one(alloc, change)?,
-            told,
-        })
-    }
-}
-
-impl Changes {
-    /// One change.
-    pub fn one(alloc: Global, change: Change) -> Result<Changes, AllocError>
-        ensures { IfOk result (λ changes. listed changes ≡ change ∷ []) }
-    {
-        Ok(Changes::Several(List::from_vec(vec![in alloc; change]?)))
-    }
+    /// These placements are put.
+    Placed(List<Placement>),
+    /// These changes of the catalogue are put.
+    Catalogue(List<Change>),
 }

@@ -19,7 +19,7 @@ use crate::stop::Stop;
 use crate::told::Told;
 use arrayvec::ArrayVec;
 use auction_types::limits::PLACES_MAX;
-use desk_types::{Call, Change, Field, Placement, Refusal};
+use desk_types::{Call, Field, Placement, Refusal, Reply};
 use query_words::{List, Text, Words, WordsError, words};
 use rank_core::{Ranked, page_of};
 use std::alloc::{AllocError, Global};
@@ -27,7 +27,7 @@ use std::alloc::{AllocError, Global};
 impl Ledger {
     /// Plans a search: each place of the page for the text, of 1 to 8 places or as many as the settings
     /// have, gets a placement.
-    #[tactic(auto, unfolding(desk_types::specs::Changes::changes, desk_types::specs::Changes::reply))]
+    #[tactic(auto, unfolding(desk_types::specs::Changes::changes, desk_types::specs::Changes::raises_edition, desk_types::specs::Changes::reply))]
     pub(crate) fn plan_search(&self, text: &Text, places: Option<u64>) -> Result<Plan, Stop>
         requires sound { IsSound self.now.state }
         ensures planned { IfOk result (IsPlanned self.now.state (Call.Search text.now places)) }
@@ -35,10 +35,9 @@ impl Ledger {
     {
         let placements = self.placements_for(text, places)?;
         let spots = self.spots(&placements)?;
-        let changes = put_each(*self.lines.allocator(), &placements)?;
         Ok(Plan {
-            changes: Changes::Several(List::from_vec(changes)),
-            told: Told::Page(List::from_vec(spots)),
+            changes: Changes::Placed(List::from_vec(placements)),
+            told: Told::Said(Reply::Page(List::from_vec(spots))),
         })
     }
 
@@ -50,7 +49,7 @@ impl Ledger {
         ensures lines { IfOk result (λ new. All (HasLine self.now.state.tables) new.items) }
         ensures stopped { IfErr result (IsStop self.now.state (Call.Search text.now places)) }
     {
-        let query = words_of(*self.lines.allocator(), text)?;
+        let query = words_of(self.alloc(), text)?;
         let Some(count) = self.places_of(places) else {
             return Err(Stop::Refused(Refusal::BadField(Field::Places)));
         };
@@ -92,17 +91,6 @@ impl Ledger {
     {
         (self.placements.len() + more) as u64 <= self.settings.placements()
     }
-}
-
-/// The changes that put these placements, in order.
-fn put_each(alloc: Global, placements: &[Placement]) -> Result<Vec<Change>, AllocError>
-    ensures { IfOk result (λ changes. changes.items ≡ map Change.PutPlacement placements.now) }
-{
-    let mut changes = Vec::with_capacity(alloc, placements.len())?;
-    for placement in placements {
-        changes.push(Change::PutPlacement(*placement))?;
-    }
-    Ok(changes)
 }
 
 /// The words of a query, or why it is refused.

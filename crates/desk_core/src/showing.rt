@@ -25,7 +25,7 @@ impl Ledger {
             new.items ≡ all_placed S entered (length S.tables.placements + 1) (map (λ r. r.ad) page.now)) }
     {
         let first = self.placements.len() as u64 + 1;
-        let mut placements = Vec::with_capacity(*self.lines.allocator(), page.len())?;
+        let mut placements = Vec::with_capacity(self.alloc(), page.len())?;
         for (index, ranked) in page.iter().enumerate() {
             let index = index as u64;
             placements.push(self.placement(first + index, index + 1, ranked))?;
@@ -66,7 +66,7 @@ impl Ledger {
         requires { All (HasLine self.now.state.tables) placements.now }
         ensures { IfOk result (λ spots. spots.items ≡ map (spot_of self.now.state.tables) placements.now) }
     {
-        let mut spots = Vec::with_capacity(*self.lines.allocator(), placements.len())?;
+        let mut spots = Vec::with_capacity(self.alloc(), placements.len())?;
         for placement in placements {
             spots.push(self.spot_of(placement)?)?;
         }

@@ -1,9 +1,7 @@
 //! Why a call puts nothing.
 
-ghost use Rattle.std.specs.Prelude.{◌≡◌, true, false, IfErr, OnOk};
-
+use accounts::EditFault;
 use desk_types::Refusal;
-use match_types::PatternError;
 use std::alloc::AllocError;
 
 /// Why a call puts nothing.
@@ -15,27 +13,16 @@ pub enum Stop {
     NoMemory,
 }
 
-/// A row of a table of refusals: it stops a call where the test holds.
-pub(crate) fn when(test: bool, refusal: Refusal) -> Result<(), Stop>
-    ensures passed { OnOk result (test ≡ false) }
-    ensures stopped { IfErr result (λ stop. (test ≡ true) × (stop ≡ Stop.Refused refusal)) }
-{
-    if test {
-        return Err(Stop::Refused(refusal));
-    }
-    Ok(())
-}
-
-impl From<PatternError> for Stop {
+impl From<EditFault> for Stop {
     ghost use Rattle.std.specs.Prelude.{◌≡◌};
-    ghost use Rattle.desk_core.specs.PatternStop.{stop_by};
+    ghost use Rattle.desk_core.specs.Planned.{stop_of};
 
-    ghost from_gives = { λ error stop. stop ≡ stop_by error };
+    ghost from_gives = { λ fault stop. stop ≡ stop_of fault };
 
-    fn from(error: PatternError) -> Self {
-        match error.cause() {
-            Some(cause) => Stop::Refused(Refusal::BadPattern(cause)),
-            None => Stop::NoMemory,
+    fn from(fault: EditFault) -> Self {
+        match fault {
+            EditFault::Refused(refusal) => Stop::Refused(refusal),
+            EditFault::NoMemory => Stop::NoMemory,
         }
     }
 }

@@ -4,18 +4,13 @@ ghost use Rattle.std.specs.Prelude.{◌≡◌};
 ghost use Rattle.desk_core.specs.Told.{IsThere, replied};
 
 use crate::ledger::Ledger;
-use desk_types::{Refusal, Reply, Spot};
-use query_words::List;
+use desk_types::Reply;
 
 /// What a call is told. A link is told by its line, so that it is copied into the reply alone.
 #[derive(Drop)]
 pub enum Told {
-    /// A thing was made, of this number.
-    Made(u64),
-    /// It was done.
-    Done,
-    /// The page.
-    Page(List<Spot>),
+    /// The reply itself.
+    Said(Reply),
     /// The click goes to the link of this line.
     Link {
         /// The account's number.
@@ -23,8 +18,6 @@ pub enum Told {
         /// The line's number within the account.
         line: u64,
     },
-    /// It was refused.
-    Refused(Refusal),
 }
 
 impl Ledger {
@@ -34,11 +27,8 @@ impl Ledger {
         ensures { result ≡ replied self.now.state.tables told }
     {
         match told {
-            Told::Made(number) => Reply::Made(number),
-            Told::Done => Reply::Done,
-            Told::Page(spots) => Reply::Page(spots),
+            Told::Said(reply) => reply,
             Told::Link { account, line } => Reply::Went(self.line_there(account, line).link.copy()),
-            Told::Refused(refusal) => Reply::Refused(refusal),
         }
     }
 }

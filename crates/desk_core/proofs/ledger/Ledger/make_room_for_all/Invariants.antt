@@ -1,5 +1,0 @@
-use Rattle.desk_core.proofs.Rooms.{IsMade}
-use Rattle.desk_core.proofs.ledger.Ledger.make_room_for_all.Given as goal
-
-abbrev pub invariant-loop-change : goal.invariant-loop-change
-invariant-loop-change l = IsMade l.initial.self l.self l.changes l.change-index

@@ -1,0 +1,23 @@
+use Rattle.std.proofs.Common.{subst}
+use Rattle.std.proofs.lemmas.Result.{err_from_is_err_and}
+use Rattle.desk_core.specs.declared.plan.Changes.TheVariants.{Catalogue}
+use Rattle.desk_core.specs.declared.told.Told.TheVariants.{Said}
+use Rattle.desk_core.specs.LedgerValue.{LedgerValue}
+use Rattle.desk_core.specs.Planned.{IsPlanned, IsStop, stop_of}
+use Rattle.desk_core.proofs.Besides.{planned_by_book, stopped_by_book}
+use Rattle.desk_core.proofs.ledger.Ledger.plan_edit.Goals as goal
+
+pub returns-in_err-plan-clause-stopped : goal.returns-in_err-plan-clause-stopped
+returns-in_err-plan-clause-stopped c =
+    let p = err_from_is_err_and c.from_residual.result c.from_residual.ensures.1 in
+    let ledger = c.self.inside in
+    let why = c.in_err-plan.field-0.0 in
+    let stopped = stopped_by_book ledger.settings ledger.moment ledger.edition ledger.book.tables ledger.placements.items c.args.call.now why c.requires.edit c.in_err-plan.ensures.stopped in
+    rw (p.1, p.2) (subst (λ (V : LedgerValue). IsStop V.state c.args.call.now (stop_of why)) c.self.view_is stopped)
+
+pub returns-clause-planned : goal.returns-clause-planned
+returns-clause-planned c =
+    let ledger = c.self.inside in
+    let plan = c.in_ok-plan.plan in
+    subst (λ (V : LedgerValue). IsPlanned V.state c.args.call.now (record { changes = Catalogue plan.changes; told = Said plan.reply })) c.self.view_is
+    (planned_by_book ledger.settings ledger.moment ledger.edition ledger.book.tables ledger.placements.items c.args.call.now plan c.requires.edit c.in_ok-plan.ensures.planned c.in_ok-plan.ensures.can_be_put)

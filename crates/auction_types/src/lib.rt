@@ -8,6 +8,3 @@ pub mod laws;
 pub mod limits;
 
 pub use ad::{Ad, better, wins_tie};
-
-#[cfg(test)]
-mod tests;

@@ -45,6 +45,3 @@ pub use wall_clock::WallClock;
 
 /// Want of memory.
 pub type NoMemory = std::alloc::AllocError;
-
-#[cfg(test)]
-mod tests;

@@ -49,6 +49,3 @@ fn least_score(ad: &Ad, next: Option<&Ad>) -> u64
         Some(below) => below.score() + 1,
     }
 }
-
-#[cfg(test)]
-mod tests;

@@ -10,9 +10,6 @@ mod kind;
 mod matching;
 mod pattern;
 mod reading;
-#[cfg(test)]
-mod tests;
-
 pub use kind::MatchType;
 pub use matching::{exact_is_phrase, matches, phrase_is_broad};
 pub use pattern::Pattern;

@@ -8,10 +8,7 @@
 
 mod cut;
 mod laws;
-mod list;
-#[cfg(test)]
-mod tests;
-mod text;
+mod list;mod text;
 mod twin;
 mod word_list;
 

@@ -10,6 +10,3 @@ mod top;
 
 pub use page::{Ranked, page_of};
 pub use top::Top;
-
-#[cfg(test)]
-mod tests;

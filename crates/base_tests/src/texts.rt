@@ -1,6 +1,6 @@
 //! Texts with their words.
 
-use crate::{List, Twin, WordsError, words};
+use query_words::{List, Twin, WordsError, words};
 use std::alloc::{AllocError, Global};
 use std::fmt::Write;
 use std::test::Fail;

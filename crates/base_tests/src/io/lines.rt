@@ -1,6 +1,6 @@
 //! How bytes are cut into lines.
 
-use crate::{LineGot, LineReader, MemSource};
+use desk_io::{LineGot, LineReader, MemSource};
 use std::alloc::{AllocError, Global};
 use std::process::Abort;
 use std::test::Fail;

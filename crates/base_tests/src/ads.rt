@@ -1,6 +1,6 @@
 //! Ads and their order.
 
-use crate::{Ad, better};
+use auction_types::{Ad, better};
 use std::process::Abort;
 
 /// What a row shows, a bid, a quality, and whether there is an ad with these.

@@ -1,6 +1,6 @@
 //! Links, clocks, and the ends of the real world.
 
-use crate::{
+use desk_io::{
     Clock, Got, LineGot, LineReader, Link, MemClock, MemLink, MemSink, MemSource, OutBuf, Pair,
     Put, Sink, Source, StdSink, StdSource, WallClock,
 };

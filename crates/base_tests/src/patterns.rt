@@ -1,6 +1,6 @@
 //! Patterns and matching, on texts.
 
-use crate::{MatchType, Pattern, PatternError, matches};
+use match_types::{MatchType, Pattern, PatternError, matches};
 use query_words::words;
 use std::alloc::Global;
 

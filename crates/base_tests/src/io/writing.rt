@@ -1,6 +1,6 @@
 //! What is put, and what is then written.
 
-use crate::{CountSink, MemSink, OutBuf, Piece, Sink, WriteFault};
+use desk_io::{CountSink, MemSink, OutBuf, Piece, Sink, WriteFault};
 use std::alloc::{AllocError, Global};
 use std::process::Abort;
 use std::test::Fail;

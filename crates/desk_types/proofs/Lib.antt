@@ -15,12 +15,15 @@ pub mod Legality
 pub mod Members
 pub mod Numbering
 pub mod OrderLemmas
+pub mod OwnRows
 pub mod Pages
 pub mod Prefixes
 pub mod PriceLemmas
 pub mod Puts
 pub mod Ranking
 pub mod Refusing
+pub mod Repeating
 pub mod SecondPrice
 pub mod ServedInTurn
 pub mod Sound
+pub mod Switching

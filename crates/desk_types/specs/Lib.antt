@@ -1,4 +1,5 @@
 pub mod AdValue
+pub mod Asked
 pub mod Changes
 pub mod Day
 pub mod Eligible
@@ -10,6 +11,7 @@ pub mod Laws
 pub mod LedgerLaws
 pub mod Money
 pub mod Order
+pub mod Own
 pub mod Page
 pub mod Price
 pub mod Refusal

@@ -22,7 +22,7 @@ mod settings;
 mod tables;
 
 pub use ad::{Ad, better, wins_tie};
-pub use call::Call;
+pub use call::{Call, ImportRow, Part};
 pub use day::day_of;
 pub use entry::{Entry, Fault, Outcome};
 pub use fields::{is_headline, is_key};

@@ -30,7 +30,7 @@ use Rattle.desk_types.specs.Changes.{all_placed, changes, drop_of, import_of, li
 use Rattle.desk_types.specs.Day.{day_of}
 use Rattle.desk_types.specs.Eligible.{ad_of, entrants_for}
 use Rattle.desk_types.specs.Judged.{AskedLine, bad_rows, dropped_negative, first, import_rows, is_within, judged, line_rows, page_of, places_of, refusals, when}
-use Rattle.desk_types.specs.Keys.{account_key, campaign_key, is_same_key, line_key, negative_key, placement_key}
+use Rattle.desk_types.specs.Keys.{account_key, batch_key, campaign_key, is_same_key, line_key, negative_key, placement_key}
 use Rattle.desk_types.specs.Money.{budget, escrowed, is_escrowed, is_set_by, spent, used}
 use Rattle.desk_types.specs.Price.{price}
 use Rattle.desk_types.specs.Refusal.{number_of}
@@ -43,7 +43,7 @@ use Rattle.desk_types.proofs.EachRow.{Each}
 use Rattle.desk_types.proofs.SecondPrice.{apart_entrants, apart_page, entrant_line, fit_entrant, lines_in_range, page_among}
 use Rattle.desk_types.proofs.InOrder.{Each-from_All}
 use Rattle.desk_types.proofs.Accounts.{AreApart}
-use Rattle.desk_types.proofs.Lawful.{AreLawful, IsGoodLine, IsOnward, IsPayable, changed, finds_two, found_all, used-shown, within_used}
+use Rattle.desk_types.proofs.Lawful.{AreLawful, IsGoodLine, IsOnward, IsPayable, changed, finds_one, finds_two, found_all, used-shown, within_used}
 use Rattle.desk_types.proofs.Members.{Has}
 use Rattle.desk_types.proofs.Numbering.{group_new, next_last, next_new}
 use Rattle.desk_types.proofs.PriceLemmas.{price-le-bid}
@@ -130,7 +130,7 @@ lawful_campaign S account amount h =
       ),
     )
 
-from_not : (b : Bool) → not b ≡ false → b ≡ true
+pub from_not : (b : Bool) → not b ≡ false → b ≡ true
 from_not true h = refl
 from_not false h = absurd cc
 
@@ -180,10 +180,28 @@ lawful_line_found S account number new (Some l) is h same in_range link =
     let known = found_all (λ (k : Line). IsInRange (ad_of k)) (λ (k : Line). k.account == account && k.number == number) S.tables.lines l h.in_range is in
     (lawful_changed S account number l (new l) is (same l) (in_range l known.0) (link l), tt)
 
-lawful_suspended : (S : State) (suspended : Bool) (test : Account → Bool) (found : Option Account) → find test S.tables.accounts ≡ found
+-- the next account is new
+lawful_account : (S : State) (key : List ℕ) → IsSound S → AreLawful S (PutAccount (record { number = length S.tables.accounts + 1; key = key; suspended = false }) ∷ [])
+lawful_account S key h =
+    let a : Account = record { number = length S.tables.accounts + 1; key = key; suspended = false } in
+    let new = next_new account_key (λ (x : Account). x.number) a S.tables.accounts (λ x. refl) h.numbered.accounts refl in
+    let test = λ (x : Account). x.number == a.number in
+    let unknown : is_some (account_of S.tables a.number) ≡ false = sym (has-find account_key (a.number ∷ []) test S.tables.accounts (finds_one account_key (λ (x : Account). x.number) a.number (λ x. refl))) ∙ new in
+    (record { next = inr refl; same_key = λ old known. absurd (both_ways _ unknown (ap is_some known)) }, tt)
+
+-- an account that is there keeps its key
+lawful_suspended : (S : State) (account : ℕ) (suspended : Bool) (found : Option Account) → account_of S.tables account ≡ found
     → AreLawful S (put_found (λ a. PutAccount (record a { suspended = suspended })) found)
-lawful_suspended S suspended test None is = tt
-lawful_suspended S suspended test (Some a) is = (inl (found_has account_key test S.tables.accounts a is), tt)
+lawful_suspended S account suspended None is = tt
+lawful_suspended S account suspended (Some a) is =
+    let test = λ (x : Account). x.number == account in
+    let here : a.number ≡ account = eqb-true a.number account (found_test test S.tables.accounts a is) in (
+      record {
+        next = inl (found_has account_key test S.tables.accounts a is);
+        same_key = λ old known. ap (λ (x : Account). x.key) (same_Some a old (sym (ap (account_of S.tables) here ∙ is) ∙ known));
+      },
+      tt,
+    )
 
 lawful_campaign_found : (S : State) (on : Bool) (test : Campaign → Bool) (found : Option Campaign) → find test S.tables.campaigns ≡ found
     → AreLawful S (put_found (λ c. PutCampaign (record c { on = on })) found)
@@ -199,21 +217,25 @@ no_cause number None h = refl
 no_cause number (Some cause) h = absurd cc
 
 -- the lines of an import, each behind those before it, and then the batch
-lawful_lines : (S : State) (account number : ℕ) (rows : List ImportRow) (b : Batch) → IsSound S → Each (λ o. o ≡ None) (bad_rows S.tables account number rows)
+lawful_lines : (S : State) (account number : ℕ) (rows : List ImportRow) (b : Batch) → IsSound S → has_key batch_key (batch_key b) S.tables.batches ≡ false → Each (λ o. o ≡ None) (bad_rows S.tables account number rows)
     → AreLawful S (map PutLine (lines_made S.tables account rows) ++ PutBatch b ∷ [])
 unfolding put
-lawful_lines S account number [] b h good = (tt, tt)
-lawful_lines S account number (row ∷ rows) b h good =
+lawful_lines S account number [] b h new good = (new, tt)
+lawful_lines S account number (row ∷ rows) b h new good =
     let asked : AskedLine = asked_by row in
     let made : Line = line_made S.tables account asked in
     let none = none_holds (line_rows S.tables account asked) (no_cause number _ good.0) in
     let fits : AreLawful S (PutLine made ∷ []) = lawful_line S account asked h (from_not (is_within BID_MIN BID_MAX row.bid) (not_when _ _ none.1.0)) in
-    (fits.0, lawful_lines (changed S (PutLine made)) account (number + 1) rows b (sound_put S (PutLine made) h fits.0) good.1)
+    (fits.0, lawful_lines (changed S (PutLine made)) account (number + 1) rows b (sound_put S (PutLine made) h fits.0) new good.1)
 
-lawful_import : (S : State) (account number : ℕ) (rows : List ImportRow) (found : Option Batch) → IsSound S → Each (λ o. o ≡ None) (import_rows S.tables account found rows)
+lawful_import : (S : State) (account number : ℕ) (rows : List ImportRow) (found : Option Batch) → batch_of S.tables account number ≡ found → IsSound S → Each (λ o. o ≡ None) (import_rows S.tables account found rows)
     → AreLawful S (import_of S.tables account number rows found)
-lawful_import S account number rows (Some there) h good = tt
-lawful_import S account number rows None h good = lawful_lines S account 1 rows _ h good.1
+lawful_import S account number rows (Some there) is h good = tt
+lawful_import S account number rows None is h good =
+    let test = λ (b : Batch). b.account == account && b.number == number in
+    let new : has_key batch_key (account ∷ number ∷ []) S.tables.batches ≡ false =
+    has-find batch_key (account ∷ number ∷ []) test S.tables.batches (finds_two batch_key (λ (b : Batch). b.account) (λ b. b.number) account number (λ x. refl)) ∙ ap is_some is in
+    lawful_lines S account 1 rows _ h new good.1
 
 lawful_live : (S : State) (account campaign : ℕ) (new : Negative) (dropped : Option Negative) (test : Negative → Bool) → find test S.tables.negatives ≡ dropped
     → new.number ≡ count_by (λ (n : Negative). n.account == new.account) S.tables.negatives + 1 → AreLawful S (PutNegative (live_again new dropped) ∷ [])
@@ -289,12 +311,12 @@ lawful_search S text places h =
 
 pub lawful_call : (S : State) (call : Call) → IsSound S → judged S call ≡ None → AreLawful S (changes S call)
 unfolding changes refusals
-lawful_call S (AddAccount key) h accepts = (inr refl, tt)
+lawful_call S (AddAccount key) h accepts = lawful_account S key h
 lawful_call S (SetQuality account line quality) h accepts =
     let none = none_holds (refusals S (SetQuality account line quality)) accepts in
     let within = quality_in quality (from_not (is_within QUALITY_MIN QUALITY_MAX quality) (not_when _ _ none.1.1.0)) in
     lawful_line_found S account line (λ l. record l { quality = quality }) (line_of S.tables account line) refl h (λ l. refl) (λ l k. (k.0, within)) (λ l. refl)
-lawful_call S (Suspend account suspended) h accepts = lawful_suspended S suspended _ (account_of S.tables account) refl
+lawful_call S (Suspend account suspended) h accepts = lawful_suspended S account suspended (account_of S.tables account) refl
 lawful_call S (AddCampaign account key budget) h accepts = lawful_campaign S account budget h
 lawful_call S (AddLine account key campaign bid pattern headline link) h accepts =
     let asked : AskedLine = record { campaign = campaign; bid = bid; pattern = pattern; headline = headline; link = link } in
@@ -310,6 +332,6 @@ lawful_call S (AddNegative account key campaign pattern) h accepts =
 lawful_call S (DropNegative account key negative) h accepts = lawful_drop S _ (negative_of S.tables account negative) refl
 lawful_call S (Import account key batch rows) h accepts =
     let none = none_holds (refusals S (Import account key batch rows)) accepts in
-    lawful_import S account batch rows (batch_of S.tables account batch) h none.1.1.1
+    lawful_import S account batch rows (batch_of S.tables account batch) refl h none.1.1.1
 lawful_call S (Search text places) h accepts = lawful_search S text places h
 lawful_call S (Click placement) h accepts = lawful_click S placement (placement_of S.tables placement) refl h

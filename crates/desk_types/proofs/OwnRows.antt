@@ -160,7 +160,7 @@ changes_are_of S (SetQuality k line quality) account h =
     subst (λ a. Each (IsOf a) (changes S (SetQuality k line quality))) e (line_is_of S.tables k line (λ l. record l { quality = quality }) (line_of S.tables k line) refl (λ l. refl))
 changes_are_of S (Suspend k suspended) account h =
     subst (λ a. Each (IsOf a) (changes S (Suspend k suspended))) (same_Some k account h) (account_is_of S.tables k suspended (account_of S.tables k) refl)
-changes_are_of S (AddCampaign k key budget) account h = (same_Some k account h, same_Some k account h, tt)
+changes_are_of S (AddCampaign k key budget) account h = (same_Some k account h, (same_Some k account h, tt))
 changes_are_of S (AddLine k key campaign bid pattern headline link) account h = (same_Some k account h, tt)
 changes_are_of S (SetBid k key line bid) account h =
     subst (λ a. Each (IsOf a) (changes S (SetBid k key line bid))) (same_Some k account h) (line_is_of S.tables k line (λ l. record l { bid = bid }) (line_of S.tables k line) refl (λ l. refl))

@@ -1,5 +1,5 @@
 -- An account is suspended and released, a campaign or a line is switched off and on: the catalogue is as it was.
-use Rattle.std.proofs.Common.{◌≡◌, ℕ, Bool, ◌==◌, ◌&&◌, ◌||◌, inl, inr, List, [], ◌∷◌, ◌++◌, find, Option, None, Some, is_none, is_some, refl, sym, ap, subst, ◌∙◌}
+use Rattle.std.proofs.Common.{◌≡◌, ℕ, Bool, true, false, ◌==◌, ◌&&◌, ◌||◌, inl, inr, List, [], ◌∷◌, ◌++◌, find, Option, None, Some, is_none, is_some, refl, sym, ap, subst, ◌∙◌}
 use Rattle.std.proofs.lemmas.Bool.{cases_Bool, cond-true, cond-false, and_parts, eqb-true}
 use Rattle.std.proofs.lemmas.Option.{same_Some}
 use Rattle.desk_types.specs.declared.call.Call.{Call}
@@ -78,7 +78,7 @@ suspended_back S first second account suspended a found =
     let once = suspended_rows S first account suspended a found in
     let known : account_of S1.tables account ≡ Some new = ap (λ (T : Tables). account_of T account) once ∙ find-put_same account_key new test S.tables.accounts finds in
     suspended_rows S1 second account a.suspended new known ∙ ap (λ (T : Tables). put T (PutAccount a)) once
-    ∙ ap (λ as. record S.tables { accounts = as }) (put_back account_key a new test S.tables.accounts finds refl found)
+    ∙ ap (λ rows. record S.tables { accounts = rows }) (put_back account_key a new test S.tables.accounts finds refl found)
 
 -- a campaign that is there is switched, where the account's owner calls
 campaign_rows : (S : State) (moment account campaign : ℕ) (key : List ℕ) (on : Bool) (c : Campaign) (owner : Option Refusal) → campaign_of S.tables account campaign ≡ Some c
@@ -116,7 +116,7 @@ campaign_back_by S one two account campaign key on c None found is =
     let known : campaign_of S1.tables account campaign ≡ Some new = ap (λ (T : Tables). campaign_of T account campaign) once ∙ find-put_same campaign_key new test S.tables.campaigns finds in
     campaign_rows S1 two account campaign key c.on new None known (ap (λ (T : Tables). first (owner_rows T account key ++ None ∷ [])) once ∙ is)
     ∙ ap (λ (T : Tables). put T (PutCampaign c)) once
-    ∙ ap (λ cs. record S.tables { campaigns = cs }) (put_back campaign_key c new test S.tables.campaigns finds refl found)
+    ∙ ap (λ rows. record S.tables { campaigns = rows }) (put_back campaign_key c new test S.tables.campaigns finds refl found)
 
 pub campaign_back : (S : State) (first second account campaign : ℕ) (key : List ℕ) (on : Bool) (c : Campaign) → campaign_of S.tables account campaign ≡ Some c
     → (step (step S first (Pause account key (OfCampaign campaign) on)).state second (Pause account key (OfCampaign campaign) c.on)).state.tables ≡ S.tables
@@ -158,7 +158,7 @@ line_back_by S one two account line key on l None found is =
     let known : line_of S1.tables account line ≡ Some new = ap (λ (T : Tables). line_of T account line) once ∙ find-put_same line_key new test S.tables.lines finds in
     line_rows_switched S1 two account line key l.on new None known (ap (λ (T : Tables). first (owner_rows T account key ++ None ∷ [])) once ∙ is)
     ∙ ap (λ (T : Tables). put T (PutLine l)) once
-    ∙ ap (λ ls. record S.tables { lines = ls }) (put_back line_key l new test S.tables.lines finds refl found)
+    ∙ ap (λ rows. record S.tables { lines = rows }) (put_back line_key l new test S.tables.lines finds refl found)
 
 pub line_back : (S : State) (first second account line : ℕ) (key : List ℕ) (on : Bool) (l : Line) → line_of S.tables account line ≡ Some l
     → (step (step S first (Pause account key (OfLine line) on)).state second (Pause account key (OfLine line) l.on)).state.tables ≡ S.tables

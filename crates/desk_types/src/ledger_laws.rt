@@ -79,13 +79,18 @@ pub fn edits_leave_other_accounts()
         rows_of (step S moment call).state.tables other ≡ rows_of S.tables other }
 {}
 
-/// A batch that is imported again, with whatever rows, changes no row and is answered as the first time.
+/// A batch that is imported again, with whatever rows, changes no row and is answered as the first time: right behind it,
+/// and from a sound state whatever entries come between.
 pub fn batches_import_once()
-    ensures { (S : State) (first second account : ℕ) (key : List ℕ) (batch from count : ℕ)
-        (rows others : List ImportRow) →
-        let reached = step S first (Call.Import account key batch rows) in
+    ensures repeated { (S : State) (first second account : ℕ) (key : List ℕ) (batch from count : ℕ)
+        (rows others : List ImportRow) → let reached = step S first (Call.Import account key batch rows) in
         reached.reply ≡ Reply.Imported from count →
         RepliesAlone reached.state second (Call.Import account key batch others) (Reply.Imported from count) }
+    ensures later { (S : State) (between : List Entry) (first second account : ℕ) (key : List ℕ) (batch from count : ℕ)
+        (rows others : List ImportRow) → IsSound S → let reached = step S first (Call.Import account key batch rows) in
+        reached.reply ≡ Reply.Imported from count →
+        let S1 = run reached.state between in
+        RepliesAlone S1 second (Call.Import account key batch others) (Reply.Imported from count) }
 {}
 
 /// An account that is suspended or released, and a campaign or a line that is switched off or on, and then set as it was,

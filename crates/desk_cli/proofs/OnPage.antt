@@ -6,13 +6,13 @@ use Rattle.std.proofs.lemmas.Option.{slice_get-map, slice_get-get_or, get_or_fro
 use Rattle.std.proofs.lemmas.Grind.{flat_map-append}
 use Rattle.std.proofs.lemmas.List.{take_more, length-map, take_all, take-append-drop}
 use Rattle.std.proofs.lemmas.List.Elements.{All-contains}
-use Rattle.desk_types.specs.AdValue.{AdValue}
-use Rattle.desk_types.specs.Laws.{IsNextBelow}
-use Rattle.desk_types.specs.Order.{better}
-use Rattle.desk_types.specs.Page.{AreOfDifferentAccounts, entrants, page, place, next_below}
-use Rattle.desk_types.specs.Price.{price}
-use Rattle.desk_types.proofs.Members.{Contains-from_Has}
-use Rattle.desk_types.proofs.Pages.{Has-slice_get, page-first_places, next_below-law}
+use Rattle.auction_types.specs.AdValue.{AdValue}
+use Rattle.auction_types.specs.Laws.{IsNextBelow}
+use Rattle.auction_types.specs.Order.{better}
+use Rattle.auction_types.specs.Page.{AreOfDifferentAccounts, entrants, page, place, next_below}
+use Rattle.auction_types.specs.Price.{price}
+use Rattle.auction_types.proofs.Members.{Contains-from_Has}
+use Rattle.auction_types.proofs.Pages.{Has-slice_get, page-first_places, next_below-law}
 use Rattle.rank_core.specs.Ranked.{IsRankedAmong, ranked}
 use Rattle.rank_core.specs.declared.page.Ranked.{Ranked}
 use Rattle.desk_cli.specs.HeadingValue.{HeadingValue}

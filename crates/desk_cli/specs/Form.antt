@@ -1,7 +1,7 @@
 -- The forms of an auction's lines.
 use Rattle.std.specs.Prelude.{ℕ, Bool, ◌==◌, ◌||◌, ◌-◌, if◌then◌else◌, List, [], ◌∷◌, length, slice_index, Option, Some, None, codes, bytes_eq}
 use Rattle.std.specs.List.{slice_split}
-use Rattle.desk_types.specs.declared.limits.TheConstants.{BID_MIN, BID_MAX, QUALITY_MIN, QUALITY_MAX, FLOOR_MAX, PLACES_MAX}
+use Rattle.auction_types.specs.declared.limits.TheConstants.{BID_MIN, BID_MAX, QUALITY_MIN, QUALITY_MAX, FLOOR_MAX, PLACES_MAX}
 use Rattle.desk_cli.specs.declared.limits.TheConstants.{NUMBER_MAX, FREE_MAX}
 use Rattle.desk_cli.specs.HeadingValue.{HeadingValue}
 use Rattle.desk_cli.specs.declared.form.LineName.{LineName}

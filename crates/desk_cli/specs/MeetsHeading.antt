@@ -1,6 +1,6 @@
 -- Ads that meet a heading.
 use Rattle.std.specs.Prelude.{◌≡◌, ◌≤◌, List, [], All, Option, Some, None}
-use Rattle.desk_types.specs.AdValue.{AdValue, score}
+use Rattle.auction_types.specs.AdValue.{AdValue, score}
 use Rattle.desk_cli.specs.HeadingValue.{HeadingValue}
 
 -- the ad's bid is at least the reserve, and its score at least the floor

@@ -1,8 +1,8 @@
 -- What the program writes, and its status.
 use Rattle.std.specs.Prelude.{ℕ, List, ◌++◌, flat_map, codes, decimal, Result, Ok, Err}
-use Rattle.desk_types.specs.AdValue.{AdValue}
-use Rattle.desk_types.specs.Page.{entrants, place, page}
-use Rattle.desk_types.specs.Price.{price}
+use Rattle.auction_types.specs.AdValue.{AdValue}
+use Rattle.auction_types.specs.Page.{entrants, place, page}
+use Rattle.auction_types.specs.Price.{price}
 use Rattle.desk_io.specs.declared.numbered_lines.LineFault.{LineFault}
 use Rattle.desk_io.specs.declared.numbered_lines.LineFault.TheVariants.{BadLine, LongLine, TooManyLines}
 use Rattle.desk_cli.specs.declared.status.TheConstants.{ENDED, WORDS_REFUSED, READ_FAULT, BAD_LINE, PAST_LIMIT}

@@ -1,7 +1,7 @@
 -- What the texts of an auction's lines spell, one after another.
 use Rattle.std.specs.Prelude.{ℕ, ◌+◌, Bool, true, false, ◌==◌, ◌&&◌, nat_le, if◌then◌else◌, List, [], ◌∷◌, ◌++◌, length, Option, Some, None, Result, Ok, Err}
 use Rattle.std.specs.List.{list_any}
-use Rattle.desk_types.specs.AdValue.{AdValue, score}
+use Rattle.auction_types.specs.AdValue.{AdValue, score}
 use Rattle.desk_io.specs.Lines.{lines}
 use Rattle.desk_io.specs.NumberedLines.{NumberedText, ToldLines, lines_told}
 use Rattle.desk_io.specs.declared.numbered_lines.LineFault.{LineFault}

@@ -10,7 +10,7 @@ use crate::fault::ReadEnd;
 use crate::heading::Heading;
 use crate::reading::AuctionReading;
 use desk_io::{NextLine, NumberedLines, Source};
-use desk_types::Ad;
+use auction_types::Ad;
 use std::alloc::Global;
 
 /// An auction: its heading and its eligible ads, in the order of their lines.

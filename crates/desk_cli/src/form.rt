@@ -6,8 +6,8 @@ ghost use Rattle.desk_cli.specs.Form.{ad_in, has_outer_space as has_space_outsid
 use crate::heading::Heading;
 use crate::limits::{FREE_MAX, NUMBER_MAX};
 use crate::parts::three_parts;
-use desk_types::Ad;
-use desk_types::limits::{BID_MAX, BID_MIN, FLOOR_MAX, PLACES_MAX, QUALITY_MAX, QUALITY_MIN};
+use auction_types::Ad;
+use auction_types::limits::{BID_MAX, BID_MIN, FLOOR_MAX, PLACES_MAX, QUALITY_MAX, QUALITY_MIN};
 use script_api::fields::{five_fields, four_fields};
 use script_api::number::number_in;
 

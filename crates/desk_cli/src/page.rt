@@ -1,7 +1,7 @@
 //! The page of an auction, written line by line.
 
 ghost use Rattle.std.specs.Prelude.{◌≡◌, ◌≤◌, [], All};
-ghost use Rattle.desk_types.specs.Page.{AreOfDifferentAccounts, entrants};
+ghost use Rattle.auction_types.specs.Page.{AreOfDifferentAccounts, entrants};
 ghost use Rattle.desk_io.specs.Putting.{Puts, Sends};
 ghost use Rattle.rank_core.specs.Ranked.{IsRankedAmong, ranked};
 ghost use Rattle.desk_cli.specs.Ending.{auction_value};
@@ -12,7 +12,7 @@ ghost use Rattle.desk_cli.specs.Saying.{IsWritten};
 use crate::auction::Auction;
 use crate::status::{ENDED, NO_MEMORY, WRITE_FAULT};
 use desk_io::{OutBuf, Piece, Sink, WriteFault};
-use desk_types::Ad;
+use auction_types::Ad;
 use gsp_price::price;
 use rank_core::{Ranked, page_of};
 use std::alloc::Global;

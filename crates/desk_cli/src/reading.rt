@@ -12,7 +12,7 @@ use crate::form::{AdLine, LineName, read_ad, read_heading};
 use crate::heading::Heading;
 use crate::limits::ADS_MAX;
 use desk_io::LineFault;
-use desk_types::Ad;
+use auction_types::Ad;
 use indexmap::IndexSet;
 use std::alloc::Global;
 use std::marker::Model;

@@ -4,17 +4,17 @@ use Rattle.std.specs.List.{All, Contains, slice_get}
 use Rattle.std.specs.Option.{IfSome}
 use Rattle.std.proofs.lemmas.List.{length-map}
 use Rattle.std.proofs.lemmas.List.Elements.{All-nil, All-cons, All-map, Contains-get_or}
-use Rattle.desk_types.specs.AdValue.{AdValue}
+use Rattle.auction_types.specs.AdValue.{AdValue}
 use Rattle.desk_types.specs.Eligible.{entrants_for}
-use Rattle.desk_types.specs.Laws.{AreFirstPlaces}
-use Rattle.desk_types.specs.Page.{next_below, page}
+use Rattle.auction_types.specs.Laws.{AreFirstPlaces}
+use Rattle.auction_types.specs.Page.{next_below, page}
 use Rattle.desk_types.specs.Changes.{all_placed}
 use Rattle.desk_types.specs.State.{State}
 use Rattle.desk_types.specs.Tables.{line_of}
-use Rattle.desk_types.proofs.Accounts.{AreOfDifferentAccounts-from}
+use Rattle.auction_types.proofs.Accounts.{AreOfDifferentAccounts-from}
 use Rattle.desk_types.proofs.SecondPrice.{LinesInRange, apart_entrants, entrant_line, fit_entrant, page_among}
-use Rattle.desk_types.proofs.Members.{Has, Has-from_Contains}
-use Rattle.desk_types.proofs.Pages.{next_below-law, page-first_places}
+use Rattle.auction_types.proofs.Members.{Has, Has-from_Contains}
+use Rattle.auction_types.proofs.Pages.{next_below-law, page-first_places}
 use Rattle.rank_core.specs.declared.page.Ranked.{Ranked}
 use Rattle.rank_core.specs.Ranked.{ranked}
 use Rattle.desk_core.specs.Shown.{AreRankedFrom, CanBePriced, HasLine}

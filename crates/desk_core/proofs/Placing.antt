@@ -2,7 +2,7 @@
 use Rattle.std.proofs.Common.{◌≡◌, ℕ, ◌+◌, ◌<◌, List, [], ◌∷◌, ◌++◌, length, map, take, get_or, sym, ap, ◌∙◌, arith}
 use Rattle.std.proofs.lemmas.List.{take_more, map-append, length-map, length-take-le}
 use Rattle.desk_types.specs.declared.rows.Placement.{Placement}
-use Rattle.desk_types.specs.AdValue.{AdValue}
+use Rattle.auction_types.specs.AdValue.{AdValue}
 use Rattle.desk_types.specs.State.{State}
 use Rattle.desk_types.specs.Changes.{all_placed, placed}
 use Rattle.rank_core.specs.declared.page.Ranked.{Ranked}

@@ -3,9 +3,9 @@ use Rattle.std.specs.Prelude.{◌≡◌, ℕ, ◌+◌, ◌<◌, ◌≤◌, List,
 use Rattle.std.specs.List.{slice_index_or}
 use Rattle.desk_types.specs.declared.rows.Placement.{Placement}
 use Rattle.desk_types.specs.declared.tables.Tables.{Tables}
-use Rattle.desk_types.specs.AdValue.{AdValue, score}
-use Rattle.desk_types.specs.Order.{better}
-use Rattle.desk_types.specs.Page.{AreOfDifferentAccounts, next_below, place}
+use Rattle.auction_types.specs.AdValue.{AdValue, score}
+use Rattle.auction_types.specs.Order.{better}
+use Rattle.auction_types.specs.Page.{AreOfDifferentAccounts, next_below, place}
 use Rattle.desk_types.specs.State.{State}
 use Rattle.desk_types.specs.Tables.{line_of}
 use Rattle.rank_core.specs.declared.page.Ranked.{Ranked}

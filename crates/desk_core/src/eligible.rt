@@ -1,11 +1,12 @@
 //! Which lines compete for a query.
 
 ghost use Rattle.std.specs.Prelude.{◌≡◌, ◌==◌, ◌&&◌, not, All, IfOk};
-ghost use Rattle.desk_types.specs.AdValue.{IsInRange};
+ghost use Rattle.auction_types.specs.AdValue.{IsInRange};
 ghost use Rattle.desk_types.specs.Eligible.{ad_of, eligible_ads, has_active_account, has_active_campaign, is_candidate, is_eligible, is_kept_out, is_matched, meets_floor, meets_reserve};
 
 use crate::ledger::Ledger;
-use desk_types::{Account, Ad, Campaign, Line, Negative};
+use auction_types::Ad;
+use desk_types::{Account, Campaign, Line, Negative};
 use match_types::{Pattern, matches};
 use query_words::Words;
 use std::alloc::AllocError;

@@ -18,7 +18,7 @@ use crate::plan::{Changes, Plan};
 use crate::stop::Stop;
 use crate::told::Told;
 use arrayvec::ArrayVec;
-use desk_types::limits::PLACES_MAX;
+use auction_types::limits::PLACES_MAX;
 use desk_types::{Call, Change, Field, Placement, Refusal};
 use query_words::{List, Text, Words, WordsError, words};
 use rank_core::{Ranked, page_of};

@@ -1,8 +1,8 @@
 //! The placements of a page, and what the page shows of them.
 
 ghost use Rattle.std.specs.Prelude.{◌≡◌, ◌+◌, ◌≤◌, List, length, map, All, Contains, IfOk};
-ghost use Rattle.desk_types.specs.AdValue.{AdValue};
-ghost use Rattle.desk_types.specs.Page.{AreOfDifferentAccounts, next_below, place as the_place};
+ghost use Rattle.auction_types.specs.AdValue.{AdValue};
+ghost use Rattle.auction_types.specs.Page.{AreOfDifferentAccounts, next_below, place as the_place};
 ghost use Rattle.desk_types.specs.Changes.{all_placed, placed, spot_of};
 ghost use Rattle.desk_types.specs.declared.limits.TheConstants.{MOMENT_MAX};
 ghost use Rattle.desk_core.specs.Shown.{AreRankedFrom, CanBePriced, HasLine};

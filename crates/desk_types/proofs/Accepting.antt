@@ -6,7 +6,7 @@ use Rattle.std.proofs.lemmas.Bool.{cases_Bool, cond-true, cond-false, both_ways,
 use Rattle.std.proofs.lemmas.Bool.Decides.{nat_tests}
 use Rattle.std.proofs.lemmas.Option.{same_Some}
 use Rattle.query_words.specs.Words.{words_of}
-use Rattle.desk_types.specs.declared.limits.TheConstants.{BID_MIN, BID_MAX, QUALITY_MIN, QUALITY_MAX}
+use Rattle.auction_types.specs.declared.limits.TheConstants.{BID_MIN, BID_MAX, QUALITY_MIN, QUALITY_MAX}
 use Rattle.desk_types.specs.declared.call.Call.{Call}
 use Rattle.desk_types.specs.declared.call.Call.TheVariants.{AddAccount, SetQuality, Suspend, AddCampaign, AddLine, SetBid, Pause, AddNegative, DropNegative, Import, Search, Click}
 use Rattle.desk_types.specs.declared.call.ImportRow.{ImportRow}
@@ -24,7 +24,7 @@ use Rattle.desk_types.specs.declared.rows.Negative.{Negative}
 use Rattle.desk_types.specs.declared.rows.Placement.{Placement}
 use Rattle.desk_types.specs.declared.tables.Change.TheVariants.{PutAccount, PutCampaign, PutBudget, PutLine, PutNegative, PutPlacement, PutBatch, PutFate}
 use Rattle.desk_types.specs.declared.tables.Tables.{Tables}
-use Rattle.desk_types.specs.AdValue.{AdValue, IsBid, IsInRange, IsQuality}
+use Rattle.auction_types.specs.AdValue.{AdValue, IsBid, IsInRange, IsQuality}
 use Rattle.desk_types.specs.Asked.{asked_by, line_made, lines_made, with_line}
 use Rattle.desk_types.specs.Changes.{all_placed, changes, drop_of, import_of, live_again, placed, placements_for, put_found, settlement, switch_of}
 use Rattle.desk_types.specs.Day.{day_of}
@@ -32,7 +32,7 @@ use Rattle.desk_types.specs.Eligible.{ad_of, entrants_for}
 use Rattle.desk_types.specs.Judged.{AskedLine, bad_rows, dropped_negative, first, import_rows, is_within, judged, line_rows, page_of, places_of, refusals, when}
 use Rattle.desk_types.specs.Keys.{account_key, batch_key, campaign_key, is_same_key, line_key, negative_key, placement_key}
 use Rattle.desk_types.specs.Money.{budget, escrowed, is_escrowed, is_set_by, spent, used}
-use Rattle.desk_types.specs.Price.{price}
+use Rattle.auction_types.specs.Price.{price}
 use Rattle.desk_types.specs.Refusal.{number_of}
 use Rattle.desk_types.specs.Sound.{IsSound}
 use Rattle.desk_types.specs.State.{State}
@@ -42,11 +42,11 @@ use Rattle.desk_types.proofs.Costs.{cost, cost-other, free-pays}
 use Rattle.desk_types.proofs.EachRow.{Each}
 use Rattle.desk_types.proofs.SecondPrice.{apart_entrants, apart_page, entrant_line, fit_entrant, lines_in_range, page_among}
 use Rattle.desk_types.proofs.InOrder.{Each-from_All}
-use Rattle.desk_types.proofs.Accounts.{AreApart}
+use Rattle.auction_types.proofs.Accounts.{AreApart}
 use Rattle.desk_types.proofs.Lawful.{AreLawful, IsGoodLine, IsOnward, IsPayable, changed, finds_one, finds_two, found_all, used-shown, within_used}
-use Rattle.desk_types.proofs.Members.{Has}
+use Rattle.auction_types.proofs.Members.{Has}
 use Rattle.desk_types.proofs.Numbering.{group_new, next_last, next_new}
-use Rattle.desk_types.proofs.PriceLemmas.{price-le-bid}
+use Rattle.auction_types.proofs.PriceLemmas.{price-le-bid}
 use Rattle.desk_types.proofs.Puts.{find-put_same, has-find, key_same}
 use Rattle.desk_types.proofs.Sound.{sound_put}
 

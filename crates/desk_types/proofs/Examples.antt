@@ -23,9 +23,9 @@ use Rattle.desk_types.specs.Eligible.{is_candidate}
 use Rattle.desk_types.specs.Fields.{is_key, is_headline, is_link}
 use Rattle.desk_types.specs.Judged.{refusals}
 use Rattle.desk_types.specs.Money.{budget, escrowed, spent, free}
-use Rattle.desk_types.specs.Order.{better, wins_tie, has_smaller_triple}
-use Rattle.desk_types.specs.Page.{entrants, distinct, is_best_of_account, place, at_place, page}
-use Rattle.desk_types.specs.Price.{price, first_passing, is_enough, keeps_place, with_bid_of}
+use Rattle.auction_types.specs.Order.{better, wins_tie, has_smaller_triple}
+use Rattle.auction_types.specs.Page.{entrants, distinct, is_best_of_account, place, at_place, page}
+use Rattle.auction_types.specs.Price.{price, first_passing, is_enough, keeps_place, with_bid_of}
 use Rattle.desk_types.specs.SettingsValue.{usual}
 use Rattle.desk_types.specs.State.{State, empty}
 use Rattle.desk_types.specs.Step.{accepted, step}

@@ -13,7 +13,7 @@ use Rattle.desk_types.specs.declared.reply.Spot.{Spot}
 use Rattle.desk_types.specs.declared.rows.Placement.{Placement}
 use Rattle.desk_types.specs.declared.tables.Change.TheVariants.{PutPlacement}
 use Rattle.desk_types.specs.declared.tables.Tables.{Tables}
-use Rattle.desk_types.specs.AdValue.{AdValue}
+use Rattle.auction_types.specs.AdValue.{AdValue}
 use Rattle.desk_types.specs.Changes.{all_placed, changes, placed, placements_for, raises_edition, reply}
 use Rattle.desk_types.specs.Eligible.{eligible_ads, entrants_for}
 use Rattle.desk_types.specs.Judged.{judged, page_of, places_of}
@@ -25,12 +25,12 @@ use Rattle.desk_types.specs.State.{State}
 use Rattle.desk_types.specs.Step.{accepted, answered, at_moment, next_edition, step}
 use Rattle.desk_types.specs.Tables.{put, put_all}
 use Rattle.desk_types.proofs.Accepting.{lawful_call}
-use Rattle.desk_types.proofs.Accounts.{AreOfDifferentAccounts-from}
-use Rattle.desk_types.proofs.Entrants.{entrants-are_best}
-use Rattle.desk_types.proofs.Members.{Has-from_Contains}
+use Rattle.auction_types.proofs.Accounts.{AreOfDifferentAccounts-from}
+use Rattle.auction_types.proofs.Entrants.{entrants-are_best}
+use Rattle.auction_types.proofs.Members.{Has-from_Contains}
 use Rattle.desk_types.proofs.Numbering.{next_last, run_next}
-use Rattle.desk_types.proofs.Pages.{page-first_places}
-use Rattle.desk_types.proofs.PriceLemmas.{price-least_price}
+use Rattle.auction_types.proofs.Pages.{page-first_places}
+use Rattle.auction_types.proofs.PriceLemmas.{price-least_price}
 use Rattle.desk_types.proofs.SecondPrice.{apart_entrants, eligible_in_range, fit_entrant, lines_in_range, page_among}
 use Rattle.desk_types.proofs.Sound.{sound_edition, sound_later, sound_put_all}
 

@@ -13,7 +13,7 @@ use Rattle.desk_types.specs.declared.rows.Line.{Line}
 use Rattle.desk_types.specs.declared.rows.Placement.{Placement}
 use Rattle.desk_types.specs.declared.tables.Change.{Change}
 use Rattle.desk_types.specs.declared.tables.Change.TheVariants.{PutAccount, PutCampaign, PutBudget, PutLine, PutNegative, PutPlacement, PutBatch, PutFate}
-use Rattle.desk_types.specs.AdValue.{IsInRange}
+use Rattle.auction_types.specs.AdValue.{IsInRange}
 use Rattle.desk_types.specs.Day.{day_of}
 use Rattle.desk_types.specs.Eligible.{ad_of}
 use Rattle.desk_types.specs.Keys.{account_key, batch_key, budget_key, campaign_key, is_same_key, line_key, negative_key, placement_key}

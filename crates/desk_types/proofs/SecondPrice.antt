@@ -5,18 +5,18 @@ use Rattle.std.specs.List.{All}
 use Rattle.std.proofs.lemmas.Bool.{cases_Bool, cond-true, cond-false, and_parts, and_from, both_ways, eq-eqb}
 use Rattle.std.proofs.lemmas.Bool.Decides.{nat_tests}
 use Rattle.desk_types.specs.declared.rows.Line.{Line}
-use Rattle.desk_types.specs.AdValue.{AdValue, IsInRange, score}
+use Rattle.auction_types.specs.AdValue.{AdValue, IsInRange, score}
 use Rattle.desk_types.specs.Day.{day_of}
 use Rattle.desk_types.specs.Eligible.{ad_of, can_pay, eligible_ads, entrants_for, has_active_account, has_active_campaign, is_candidate, is_eligible, is_kept_out, is_matched, meets_floor, meets_reserve}
 use Rattle.desk_types.specs.Money.{free}
-use Rattle.desk_types.specs.Order.{better}
-use Rattle.desk_types.specs.Page.{page}
+use Rattle.auction_types.specs.Order.{better}
+use Rattle.auction_types.specs.Page.{page}
 use Rattle.desk_types.specs.State.{State}
-use Rattle.desk_types.proofs.Accounts.{AreApart, IsRanking-of, ranking_of, one_of_account}
-use Rattle.desk_types.proofs.Entrants.{entrant_of, entrants-apart}
-use Rattle.desk_types.proofs.Members.{Has, SameCounts-Has, SameCounts-sym}
-use Rattle.desk_types.proofs.OrderLemmas.{better-irreflexive}
-use Rattle.desk_types.proofs.Ranking.{IsRanked, page-ranking}
+use Rattle.auction_types.proofs.Accounts.{AreApart, IsRanking-of, ranking_of, one_of_account}
+use Rattle.auction_types.proofs.Entrants.{entrant_of, entrants-apart}
+use Rattle.auction_types.proofs.Members.{Has, SameCounts-Has, SameCounts-sym}
+use Rattle.auction_types.proofs.OrderLemmas.{better-irreflexive}
+use Rattle.auction_types.proofs.Ranking.{IsRanked, page-ranking}
 use Rattle.desk_types.specs.Sound.{IsSound}
 use Rattle.desk_types.specs.Tables.{line_of}
 use Rattle.desk_types.proofs.EachRow.{All-from_Each, Each}

@@ -11,7 +11,7 @@ use Rattle.desk_types.specs.declared.rows.Line.{Line}
 use Rattle.desk_types.specs.declared.rows.Placement.{Placement}
 use Rattle.desk_types.specs.declared.tables.Change.{Change}
 use Rattle.desk_types.specs.declared.tables.Change.TheVariants.{PutAccount, PutCampaign, PutBudget, PutLine, PutNegative, PutPlacement, PutBatch, PutFate}
-use Rattle.desk_types.specs.AdValue.{IsInRange}
+use Rattle.auction_types.specs.AdValue.{IsInRange}
 use Rattle.desk_types.specs.Eligible.{ad_of}
 use Rattle.desk_types.specs.Keys.{account_key, batch_key, budget_key, campaign_key, line_key, negative_key, placement_key}
 use Rattle.desk_types.specs.Money.{budget, escrowed, spent}

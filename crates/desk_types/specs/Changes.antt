@@ -18,14 +18,14 @@ use Rattle.desk_types.specs.declared.rows.Placement.{Placement}
 use Rattle.desk_types.specs.declared.tables.Change.{Change}
 use Rattle.desk_types.specs.declared.tables.Change.TheVariants.{PutAccount, PutCampaign, PutBudget, PutLine, PutNegative, PutPlacement, PutBatch, PutFate}
 use Rattle.desk_types.specs.declared.tables.Tables.{Tables}
-use Rattle.desk_types.specs.AdValue.{AdValue}
+use Rattle.auction_types.specs.AdValue.{AdValue}
 pub use Rattle.desk_types.specs.Asked.{line_made}
 use Rattle.desk_types.specs.Asked.{lines_made}
 use Rattle.desk_types.specs.Eligible.{entrants_for}
 use Rattle.desk_types.specs.Judged.{dropped_negative, page_of}
 use Rattle.desk_types.specs.Money.{is_escrowed}
-use Rattle.desk_types.specs.Page.{place}
-use Rattle.desk_types.specs.Price.{price}
+use Rattle.auction_types.specs.Page.{place}
+use Rattle.auction_types.specs.Price.{price}
 use Rattle.desk_types.specs.State.{State}
 use Rattle.desk_types.specs.Tables.{account_of, batch_of, campaign_of, campaigns_of, line_of, lines_of, negative_of, negatives_of, placement_of}
 

@@ -5,10 +5,10 @@ use Rattle.match_types.specs.Marks.{kind_of}
 use Rattle.match_types.specs.Pattern.{words_in}
 use Rattle.match_types.specs.Tests.{meets}
 use Rattle.desk_types.specs.declared.rows.Line.{Line}
-use Rattle.desk_types.specs.AdValue.{AdValue, score}
+use Rattle.auction_types.specs.AdValue.{AdValue, score}
 use Rattle.desk_types.specs.Day.{day_of}
 use Rattle.desk_types.specs.Money.{free}
-use Rattle.desk_types.specs.Page.{entrants}
+use Rattle.auction_types.specs.Page.{entrants}
 use Rattle.desk_types.specs.State.{State}
 
 -- a line as an ad

@@ -6,7 +6,8 @@ use Rattle.query_words.specs.Words.{words_of}
 use Rattle.match_types.specs.Pattern.{refusal, negative_refusal, negative_text}
 use Rattle.match_types.specs.Marks.{trimmed}
 use Rattle.match_types.specs.Tests.{is_same_pattern}
-use Rattle.desk_types.specs.declared.limits.TheConstants.{BID_MIN, BID_MAX, BUDGET_MIN, BUDGET_MAX, QUALITY_MIN, QUALITY_MAX, BATCH_MAX, ROWS_MAX, PLACES_MAX, ACCOUNTS_MAX, CAMPAIGNS_MAX, LINES_MAX, NEGATIVES_MAX}
+use Rattle.auction_types.specs.declared.limits.TheConstants.{BID_MIN, BID_MAX, QUALITY_MIN, QUALITY_MAX, PLACES_MAX}
+use Rattle.desk_types.specs.declared.limits.TheConstants.{BUDGET_MIN, BUDGET_MAX, BATCH_MAX, ROWS_MAX, ACCOUNTS_MAX, CAMPAIGNS_MAX, LINES_MAX, NEGATIVES_MAX}
 use Rattle.desk_types.specs.declared.call.Call.{Call}
 use Rattle.desk_types.specs.declared.call.Call.TheVariants.{AddAccount, SetQuality, Suspend, AddCampaign, AddLine, SetBid, Pause, AddNegative, DropNegative, Import, Search, Click}
 use Rattle.desk_types.specs.declared.call.ImportRow.{ImportRow}
@@ -19,12 +20,12 @@ use Rattle.desk_types.specs.declared.rows.Batch.{Batch}
 use Rattle.desk_types.specs.declared.rows.Line.{Line}
 use Rattle.desk_types.specs.declared.rows.Negative.{Negative}
 use Rattle.desk_types.specs.declared.tables.Tables.{Tables}
-use Rattle.desk_types.specs.AdValue.{AdValue}
+use Rattle.auction_types.specs.AdValue.{AdValue}
 pub use Rattle.desk_types.specs.Asked.{AskedLine}
 use Rattle.desk_types.specs.Asked.{asked_by, with_line}
 use Rattle.desk_types.specs.Eligible.{entrants_for}
 use Rattle.desk_types.specs.Fields.{is_key, is_headline, is_link}
-use Rattle.desk_types.specs.Page.{page}
+use Rattle.auction_types.specs.Page.{page}
 use Rattle.desk_types.specs.Refusal.{number_of}
 use Rattle.desk_types.specs.State.{State}
 use Rattle.desk_types.specs.Tables.{account_of, batch_of, campaign_of, line_of, placement_of, campaigns_of, lines_of, negatives_of}

@@ -7,12 +7,12 @@ use Rattle.desk_types.specs.declared.reply.Reply.{Reply}
 use Rattle.desk_types.specs.declared.reply.Reply.TheVariants.{Went}
 use Rattle.desk_types.specs.declared.reply.Spot.{Spot}
 use Rattle.desk_types.specs.declared.rows.Placement.{Placement}
-use Rattle.desk_types.specs.AdValue.{AdValue}
+use Rattle.auction_types.specs.AdValue.{AdValue}
 use Rattle.desk_types.specs.Changes.{all_placed, spot_of}
 use Rattle.desk_types.specs.Eligible.{eligible_ads, entrants_for}
 use Rattle.desk_types.specs.Judged.{places_of}
-use Rattle.desk_types.specs.Laws.{AreBestOfAccounts, AreFirstPlaces, IsLeastPrice}
-use Rattle.desk_types.specs.Price.{price}
+use Rattle.auction_types.specs.Laws.{AreBestOfAccounts, AreFirstPlaces, IsLeastPrice}
+use Rattle.auction_types.specs.Price.{price}
 use Rattle.desk_types.specs.State.{State, IsSameButForMoment}
 use Rattle.desk_types.specs.Step.{step}
 

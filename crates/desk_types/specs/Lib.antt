@@ -1,4 +1,3 @@
-pub mod AdValue
 pub mod Asked
 pub mod Changes
 pub mod Day
@@ -7,13 +6,9 @@ pub mod Fields
 pub mod Journal
 pub mod Judged
 pub mod Keys
-pub mod Laws
 pub mod LedgerLaws
 pub mod Money
-pub mod Order
 pub mod Own
-pub mod Page
-pub mod Price
 pub mod Refusal
 pub mod Run
 pub mod Serving

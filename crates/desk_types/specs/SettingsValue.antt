@@ -1,7 +1,8 @@
 -- Settings as contracts see them, and the ranges of their numbers.
 use Rattle.std.specs.Prelude.{ℕ, ◌≤◌}
-use Rattle.desk_types.specs.declared.limits.TheConstants.{FLOOR_MAX, PLACES_MAX, PLACES_USUAL, RESERVE_USUAL, JOURNAL_MAX, JOURNAL_USUAL, JOURNAL_BYTES_MAX, PLACEMENTS_MAX, PLACEMENTS_USUAL}
-use Rattle.desk_types.specs.AdValue.{IsBid}
+use Rattle.auction_types.specs.declared.limits.TheConstants.{FLOOR_MAX, PLACES_MAX}
+use Rattle.desk_types.specs.declared.limits.TheConstants.{PLACES_USUAL, RESERVE_USUAL, JOURNAL_MAX, JOURNAL_USUAL, JOURNAL_BYTES_MAX, PLACEMENTS_MAX, PLACEMENTS_USUAL}
+use Rattle.auction_types.specs.AdValue.{IsBid}
 
 -- the settings of a desk
 pub record SettingsValue : Type 0 where

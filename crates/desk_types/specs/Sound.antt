@@ -3,7 +3,7 @@ use Rattle.std.specs.Prelude.{◌≡◌, ℕ, ◌≤◌, ◌==◌, ◌≤ℤ◌,
 use Rattle.std.specs.List.{AllPairs, range_with_len}
 use Rattle.desk_types.specs.declared.limits.TheConstants.{MOMENT_MAX}
 use Rattle.desk_types.specs.declared.tables.Tables.{Tables}
-use Rattle.desk_types.specs.AdValue.{IsInRange}
+use Rattle.auction_types.specs.AdValue.{IsInRange}
 use Rattle.desk_types.specs.Eligible.{ad_of}
 use Rattle.desk_types.specs.Keys.{account_key, campaign_key, budget_key, line_key, negative_key, placement_key, batch_key, is_less_key}
 use Rattle.desk_types.specs.Money.{free}

@@ -1,16 +1,14 @@
-//! The types of the subject, the definitions of the auction and of the ledger, and `Service`.
-//! `laws` says what order, entrants, places, pages and prices are, `ledger_laws` what holds of every
-//! history, and the contract of `Service` that each call has the ledger's answer.
-//! It stands on `query_words` and `match_types` for texts, words and patterns, and on `arrayvec` for links.
+//! The types of the subject, the definitions of the ledger, and `Service`.
+//! `ledger_laws` says what holds of every history, and the contract of `Service` that each call has the ledger's answer.
+//! It stands on `auction_types` for ads, pages and prices, on `query_words` and `match_types` for texts, words and patterns,
+//! and on `arrayvec` for links.
 //! Ranking, pricing, the rows of a desk and keeping them are left to the crates above.
 #![tactic(auto)]
 
-mod ad;
 mod call;
 mod day;
 mod entry;
 mod fields;
-pub mod laws;
 pub mod ledger_laws;
 pub mod limits;
 mod link;
@@ -21,7 +19,6 @@ mod service;
 mod settings;
 mod tables;
 
-pub use ad::{Ad, better, wins_tie};
 pub use call::{Call, ImportRow, Part};
 pub use day::day_of;
 pub use entry::{Entry, Fault, Outcome};

@@ -3,29 +3,11 @@
 ghost use Rattle.std.specs.Prelude.{◌≡◌};
 ghost use Rattle.desk_types.specs.Day.{day_of};
 
-/// The least bid and the least reserve, in cents per click.
-pub const BID_MIN: u64 = 1;
-
-/// The greatest bid and the greatest reserve, in cents per click.
-pub const BID_MAX: u64 = 1_000_000;
-
 /// The reserve of the usual settings, in cents per click.
 pub const RESERVE_USUAL: u64 = 5;
 
-/// The least quality of a line.
-pub const QUALITY_MIN: u64 = 1;
-
-/// The greatest quality of a line.
-pub const QUALITY_MAX: u64 = 100;
-
 /// The quality of a new line.
 pub const QUALITY_NEW: u64 = 10;
-
-/// The greatest floor: the least score that an ad must have, in cents times quality.
-pub const FLOOR_MAX: u64 = 100_000_000;
-
-/// The most places of a page; the least number is one.
-pub const PLACES_MAX: u64 = 8;
 
 /// The places of a page of the usual settings.
 pub const PLACES_USUAL: u64 = 4;
@@ -96,10 +78,9 @@ pub const ROW_WEIGHT: u64 = 128;
 
 /// A law: the limits are these numbers.
 pub fn limits_are_these()
-    ensures bids { (BID_MIN ≡ 1) × (BID_MAX ≡ 1000000) }
-    ensures qualities { (QUALITY_MIN ≡ 1) × (QUALITY_MAX ≡ 100) × (QUALITY_NEW ≡ 10) }
+    ensures qualities { QUALITY_NEW ≡ 10 }
     ensures budgets { (BUDGET_MIN ≡ 1) × (BUDGET_MAX ≡ 1000000000000) }
-    ensures auctions { (RESERVE_USUAL ≡ 5) × (FLOOR_MAX ≡ 100000000) × (PLACES_MAX ≡ 8) × (PLACES_USUAL ≡ 4) }
+    ensures auctions { (RESERVE_USUAL ≡ 5) × (PLACES_USUAL ≡ 4) }
     ensures clicks { CLICK_WINDOW ≡ 1800 }
     ensures moments { MOMENT_MAX ≡ 253402300799 }
     ensures days { (DAY_SECONDS ≡ 86400) × (day_of MOMENT_MAX ≡ 2932896) }

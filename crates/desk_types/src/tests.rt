@@ -1,5 +1,4 @@
 //! Tests of the types.
 
-mod ads;
 mod calls;
 mod forms;

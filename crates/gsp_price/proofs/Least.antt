@@ -7,13 +7,13 @@ use Rattle.std.proofs.lemmas.Grind.{div_ceil_times}
 use Rattle.std.proofs.lemmas.Bool.{leb-true, le-leb, and_parts, and_from, cases_lt}
 use Rattle.std.proofs.Math.Nat.{mul-le-mul_right}
 use Rattle.std.proofs.lemmas.Bool.Decides.{nat_tests}
-use Rattle.desk_types.specs.AdValue.{AdValue, score, with_bid}
-use Rattle.desk_types.specs.Order.{better, wins_tie, has_smaller_triple, stays_ahead}
-use Rattle.desk_types.specs.Page.{AreOfDifferentAccounts, next_below}
-use Rattle.desk_types.specs.Price.{is_enough, price}
-use Rattle.desk_types.proofs.Members.{Has-from_Contains}
-use Rattle.desk_types.proofs.Accounts.{AreApart-from}
-use Rattle.desk_types.proofs.PriceLemmas.{keeps_place-is, price-is_enough, price-le-bid, price-least}
+use Rattle.auction_types.specs.AdValue.{AdValue, score, with_bid}
+use Rattle.auction_types.specs.Order.{better, wins_tie, has_smaller_triple, stays_ahead}
+use Rattle.auction_types.specs.Page.{AreOfDifferentAccounts, next_below}
+use Rattle.auction_types.specs.Price.{is_enough, price}
+use Rattle.auction_types.proofs.Members.{Has-from_Contains}
+use Rattle.auction_types.proofs.Accounts.{AreApart-from}
+use Rattle.auction_types.proofs.PriceLemmas.{keeps_place-is, price-is_enough, price-le-bid, price-least}
 use Rattle.gsp_price.specs.Enough.{IsEnough}
 
 tie_won : (m n : ℕ) → (nat_lt m n || (n == m && true)) ≡ nat_le m n

@@ -5,16 +5,16 @@
 //! Who the next below is is left to the crate that ranks.
 #![tactic(auto)]
 
-ghost use Rattle.desk_types.specs.AdValue.{AdValue, IsBid, score, with_bid};
-ghost use Rattle.desk_types.specs.Order.{better, stays_ahead};
-ghost use Rattle.desk_types.specs.Page.{AreOfDifferentAccounts, next_below};
-ghost use Rattle.desk_types.specs.Price.{price as price_of};
-ghost use Rattle.desk_types.specs.declared.limits.TheConstants.{FLOOR_MAX};
+ghost use Rattle.auction_types.specs.AdValue.{AdValue, IsBid, score, with_bid};
+ghost use Rattle.auction_types.specs.Order.{better, stays_ahead};
+ghost use Rattle.auction_types.specs.Page.{AreOfDifferentAccounts, next_below};
+ghost use Rattle.auction_types.specs.Price.{price as price_of};
+ghost use Rattle.auction_types.specs.declared.limits.TheConstants.{FLOOR_MAX};
 ghost use Rattle.gsp_price.specs.Enough.{IsEnough};
 ghost use Rattle.std.specs.Option.{option_copied};
 ghost use Rattle.std.specs.Prelude.{◌≡◌, ℕ, ◌*◌, ◌≤◌, nat_le, List, IfSome, IsTrue, Contains};
 
-use desk_types::{Ad, wins_tie};
+use auction_types::{Ad, wins_tie};
 
 /// What the ad pays for a click, in cents: the least number that is at least the reserve (1 to
 /// 1,000,000 cents), has as its bid a score of at least the floor (0 to 100,000,000), and as its bid

@@ -1,5 +1,5 @@
 use super::*;
-use desk_types::better;
+use auction_types::better;
 use std::process::Abort;
 
 #[test]

@@ -7,14 +7,14 @@ use Rattle.std.proofs.lemmas.List.{take-append-drop, take_more}
 use Rattle.std.proofs.Math.Seq.{take-append_seam}
 use Rattle.std.proofs.lemmas.List.Elements.{filter-append, All-contains}
 use Rattle.std.proofs.lemmas.List.Sorted.{sorted_far}
-use Rattle.desk_types.specs.AdValue.{AdValue, IsInRange}
-use Rattle.desk_types.specs.Order.{better}
-use Rattle.desk_types.specs.Page.{entrants}
-use Rattle.desk_types.proofs.OrderLemmas.{better-irreflexive, better-weak_order, same_if_neither}
-use Rattle.desk_types.proofs.Members.{Has, Contains-from_Has, Has-filter, Has-filtered, SameCounts, SameCounts-refl, SameCounts-sym, SameCounts-trans, SameCounts-cons, SameCounts-swap, SameCounts-Has, SameCounts-from_IsPermutation}
-use Rattle.desk_types.proofs.Ranking.{IsRanked, IsRanking}
-use Rattle.desk_types.proofs.Accounts.{AreApart, better_one, right_one}
-use Rattle.desk_types.proofs.Entrants.{list_any-Has, list_any-none, list_any-passing, entrant_of, entrant_from, best_beats, best_from, entrants-apart}
+use Rattle.auction_types.specs.AdValue.{AdValue, IsInRange}
+use Rattle.auction_types.specs.Order.{better}
+use Rattle.auction_types.specs.Page.{entrants}
+use Rattle.auction_types.proofs.OrderLemmas.{better-irreflexive, better-weak_order, same_if_neither}
+use Rattle.auction_types.proofs.Members.{Has, Contains-from_Has, Has-filter, Has-filtered, SameCounts, SameCounts-refl, SameCounts-sym, SameCounts-trans, SameCounts-cons, SameCounts-swap, SameCounts-Has, SameCounts-from_IsPermutation}
+use Rattle.auction_types.proofs.Ranking.{IsRanked, IsRanking}
+use Rattle.auction_types.proofs.Accounts.{AreApart, better_one, right_one}
+use Rattle.auction_types.proofs.Entrants.{list_any-Has, list_any-none, list_any-passing, entrant_of, entrant_from, best_beats, best_from, entrants-apart}
 use Rattle.rank_core.specs.Firsts.{is_other, firsts}
 
 -- whether y is of x's account

@@ -1,9 +1,9 @@
 -- The page with the next below each, from the ranked entrants.
 use Rattle.std.proofs.Common.{◌≡◌, ℕ, zero, suc, ◌+◌, List, [], ◌∷◌, ◌++◌, Option, Some, map, length, take, refl, sym, ap, ◌∙◌, arith, append_assoc}
 use Rattle.std.specs.List.{slice_get}
-use Rattle.desk_types.specs.AdValue.{AdValue}
-use Rattle.desk_types.specs.Page.{next_below}
-use Rattle.desk_types.proofs.Ranking.{IsRanking, page-ranking, next_below-ranking}
+use Rattle.auction_types.specs.AdValue.{AdValue}
+use Rattle.auction_types.specs.Page.{next_below}
+use Rattle.auction_types.proofs.Ranking.{IsRanking, page-ranking, next_below-ranking}
 use Rattle.rank_core.specs.declared.page.Ranked.{Ranked}
 use Rattle.rank_core.specs.Nexts.{each_with_next}
 use Rattle.rank_core.specs.Ranked.{ranked}

@@ -5,10 +5,10 @@ use Rattle.std.specs.List.Sorted.{IsPermutation}
 use Rattle.std.proofs.lemmas.List.Elements.{All-map, All-weaker, All-contains_itself}
 use Rattle.std.proofs.lemmas.List.Sorted.{All-permutation, IsPermutation-sym}
 use Rattle.std.proofs.lemmas.Option.{IfSome_then}
-use Rattle.desk_types.specs.AdValue.{AdValue, IsInRange}
-use Rattle.desk_types.specs.Page.{AreOfDifferentAccounts, entrants, page, next_below}
-use Rattle.desk_types.proofs.Entrants.{entrants-are_best}
-use Rattle.desk_types.proofs.Pages.{page-first_places, next_below-law}
+use Rattle.auction_types.specs.AdValue.{AdValue, IsInRange}
+use Rattle.auction_types.specs.Page.{AreOfDifferentAccounts, entrants, page, next_below}
+use Rattle.auction_types.proofs.Entrants.{entrants-are_best}
+use Rattle.auction_types.proofs.Pages.{page-first_places, next_below-law}
 use Rattle.rank_core.specs.Ranked.{ranked, IsRankedAmong}
 
 pub entrants-different : (ads sorted : List AdValue) → IsPermutation ads sorted → All IsInRange sorted → AreOfDifferentAccounts (entrants ads)

@@ -1,7 +1,7 @@
 -- The first ad of each account in a list.
 use Rattle.std.specs.Prelude.{Bool, not, ◌==◌, List, [], ◌∷◌}
 use Rattle.std.specs.List.{filter}
-use Rattle.desk_types.specs.AdValue.{AdValue}
+use Rattle.auction_types.specs.AdValue.{AdValue}
 
 -- whether y is of another account than x
 abbrev pub is_other : AdValue → AdValue → Bool

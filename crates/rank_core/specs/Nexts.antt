@@ -1,7 +1,7 @@
 -- The ads of a list, each with the one that comes next.
 use Rattle.std.specs.Prelude.{List, [], ◌∷◌}
 use Rattle.std.specs.List.{slice_get}
-use Rattle.desk_types.specs.AdValue.{AdValue}
+use Rattle.auction_types.specs.AdValue.{AdValue}
 use Rattle.rank_core.specs.declared.page.Ranked.{Ranked}
 
 -- each with the one that comes next, if there is one

@@ -1,8 +1,8 @@
 -- The page, each ad with the entrant next below it.
 use Rattle.std.specs.Prelude.{◌≡◌, ℕ, List, map, IfSome, IsTrue, Contains}
-use Rattle.desk_types.specs.AdValue.{AdValue}
-use Rattle.desk_types.specs.Order.{better}
-use Rattle.desk_types.specs.Page.{entrants, page, next_below}
+use Rattle.auction_types.specs.AdValue.{AdValue}
+use Rattle.auction_types.specs.Order.{better}
+use Rattle.auction_types.specs.Page.{entrants, page, next_below}
 use Rattle.rank_core.specs.declared.page.Ranked.{Ranked}
 
 -- the ads of the page for n places, in order of place, each with the entrant next below it

@@ -1,9 +1,9 @@
 //! The page over a list of ads.
 
-ghost use Rattle.desk_types.specs.AdValue.{IsInRange};
-ghost use Rattle.desk_types.specs.Order.{better as is_better};
-ghost use Rattle.desk_types.specs.Page.{AreOfDifferentAccounts, entrants};
-ghost use Rattle.desk_types.specs.declared.limits.TheConstants.{PLACES_MAX};
+ghost use Rattle.auction_types.specs.AdValue.{IsInRange};
+ghost use Rattle.auction_types.specs.Order.{better as is_better};
+ghost use Rattle.auction_types.specs.Page.{AreOfDifferentAccounts, entrants};
+ghost use Rattle.auction_types.specs.declared.limits.TheConstants.{PLACES_MAX};
 ghost use Rattle.rank_core.specs.Firsts.{firsts};
 ghost use Rattle.rank_core.specs.Nexts.{each_with_next};
 ghost use Rattle.rank_core.specs.Ranked.{IsRankedAmong, ranked};
@@ -13,8 +13,8 @@ ghost use Rattle.std.specs.Ordering.{is_lt};
 ghost use Rattle.std.specs.Prelude.{◌≡◌, ◌≤◌, ◌==◌, take, All, IfOk, OnOk};
 
 use arrayvec::ArrayVec;
-use desk_types::limits::{BID_MAX, QUALITY_MAX};
-use desk_types::{Ad, better};
+use auction_types::limits::{BID_MAX, QUALITY_MAX};
+use auction_types::{Ad, better};
 use std::alloc::{AllocError, Global};
 use std::cmp::Ordering;
 

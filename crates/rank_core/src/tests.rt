@@ -1,5 +1,5 @@
 use super::*;
-use desk_types::Ad;
+use auction_types::Ad;
 use std::process::Abort;
 use std::test::Fail;
 

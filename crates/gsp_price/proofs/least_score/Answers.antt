@@ -1,8 +1,8 @@
 use Rattle.std.proofs.Common.{◌≡◌, ap, sym, refl, ◌∙◌, true, false}
 use Rattle.std.specs.Option.{option_copied}
 use Rattle.std.proofs.lemmas.Option.{same_Some}
-use Rattle.desk_types.specs.AdValue.{with_bid}
-use Rattle.desk_types.specs.Order.{wins_tie, stays_ahead}
+use Rattle.auction_types.specs.AdValue.{with_bid}
+use Rattle.auction_types.specs.Order.{wins_tie, stays_ahead}
 use Rattle.gsp_price.proofs.Least.{ahead-tie_won, ahead-tie_lost}
 use Rattle.gsp_price.proofs.least_score.Goals as goal
 

@@ -2,8 +2,8 @@ use Rattle.std.proofs.Common.{◌≡◌, ◌+◌, ◌++◌, ◌∙◌, [], refl,
 use Rattle.std.specs.Option.{option_copied}
 use Rattle.std.specs.Prelude.{IsTrue}
 use Rattle.desk_io.proofs.Putting.{puts_again, puts_nothing}
-use Rattle.desk_types.specs.Order.{better}
-use Rattle.desk_types.specs.Page.{entrants}
+use Rattle.auction_types.specs.Order.{better}
+use Rattle.auction_types.specs.Page.{entrants}
 use Rattle.desk_cli.specs.Ending.{auction_value}
 use Rattle.desk_cli.specs.Printout.{entrant_line}
 use Rattle.desk_cli.proofs.OnPage.{written, written-zero, written-next, written-end, written-first, item-on_page, item-meets, copied}

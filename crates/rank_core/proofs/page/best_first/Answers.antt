@@ -1,8 +1,8 @@
 use Rattle.std.proofs.lemmas.List.Sorted.{answers_always, All-permutation}
 use Rattle.std.proofs.Common.{rules}
-use Rattle.desk_types.specs.AdValue.{IsInRange}
-use Rattle.desk_types.specs.Order.{better}
-use Rattle.desk_types.proofs.OrderLemmas.{better-weak_order}
+use Rattle.auction_types.specs.AdValue.{IsInRange}
+use Rattle.auction_types.specs.Order.{better}
+use Rattle.auction_types.proofs.OrderLemmas.{better-weak_order}
 use Rattle.rank_core.proofs.page.best_first.Goals as goal
 
 pub returns-clause-best_first : goal.returns-clause-best_first

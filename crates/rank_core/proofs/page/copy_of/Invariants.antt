@@ -1,6 +1,6 @@
 use Rattle.std.proofs.Common.{◌≡◌, take}
 use Rattle.std.specs.List.{All}
-use Rattle.desk_types.specs.AdValue.{IsInRange}
+use Rattle.auction_types.specs.AdValue.{IsInRange}
 use Rattle.rank_core.proofs.page.copy_of.Given as goal
 
 abbrev pub invariant-loop-ad : goal.invariant-loop-ad

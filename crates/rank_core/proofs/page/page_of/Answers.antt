@@ -6,7 +6,7 @@ use Rattle.rank_core.proofs.NextsLemmas.{ranked-is}
 use Rattle.rank_core.proofs.RankedLemmas.{ranked-each, entrants-different}
 use Rattle.rank_core.specs.Ranked.{IsRankedAmong}
 use Rattle.std.proofs.lemmas.List.Elements.{All-same}
-use Rattle.desk_types.specs.Page.{entrants}
+use Rattle.auction_types.specs.Page.{entrants}
 use Rattle.rank_core.proofs.page.page_of.Goals as goal
 
 pub returns-clause-page : goal.returns-clause-page

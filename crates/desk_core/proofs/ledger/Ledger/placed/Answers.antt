@@ -1,6 +1,6 @@
 use Rattle.std.proofs.Common.{◌≡◌, ◌+◌, ◌∙◌, ap, subst, sym, length, arith}
 use Rattle.std.specs.Prelude.{Contains}
-use Rattle.desk_types.specs.Page.{next_below, place}
+use Rattle.auction_types.specs.Page.{next_below, place}
 use Rattle.desk_types.specs.Changes.{placed}
 use Rattle.desk_core.proofs.Placing.{placed_more}
 use Rattle.desk_core.proofs.ledger.Ledger.placed.Goals as goal

@@ -1,5 +1,5 @@
 use Rattle.std.proofs.Common.{◌≡◌, ◌+◌, List, length, map, take}
-use Rattle.desk_types.specs.AdValue.{AdValue}
+use Rattle.auction_types.specs.AdValue.{AdValue}
 use Rattle.desk_types.specs.Changes.{all_placed}
 use Rattle.desk_core.specs.Shown.{AreRankedFrom}
 use Rattle.desk_core.proofs.ledger.Ledger.placed.Given as goal

@@ -1,5 +1,0 @@
-use Rattle.desk_types.proofs.Entrants.{entrants-are_best}
-use Rattle.desk_types.proofs.laws.entrants_are_the_best_of_their_accounts.Goals as goal
-
-pub returns : goal.returns
-returns c = entrants-are_best

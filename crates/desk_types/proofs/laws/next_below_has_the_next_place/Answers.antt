@@ -1,5 +1,0 @@
-use Rattle.desk_types.proofs.Pages.{next_below-law}
-use Rattle.desk_types.proofs.laws.next_below_has_the_next_place.Goals as goal
-
-pub returns : goal.returns
-returns c = next_below-law

@@ -1,40 +1,49 @@
 -- The changes of an accepted call are lawful.
-use Rattle.std.proofs.Common.{◌≡◌, ◌≢◌, ℕ, ◌+◌, ◌≤◌, Bool, true, false, not, ◌==◌, ◌&&◌, ◌||◌, inl, inr, List, [], ◌∷◌, find, length, map, Option, None, Some, is_some, refl, sym, ap, subst, ◌∙◌, arith, length-append}
+use Rattle.std.proofs.Common.{◌≡◌, ◌≢◌, ℕ, ◌+◌, ◌≤◌, Bool, true, false, not, ◌==◌, ◌&&◌, ◌||◌, inl, inr, List, [], ◌∷◌, ◌++◌, find, length, map, Option, None, Some, is_some, option_map, refl, sym, ap, subst, ◌∙◌, arith, length-append}
 use Rattle.std.specs.Prelude.{nat_le}
 use Rattle.std.specs.List.{count_by}
 use Rattle.std.proofs.lemmas.Bool.{cases_Bool, cond-true, cond-false, both_ways, and_parts, and_left, eqb-true, ne_eqb}
 use Rattle.std.proofs.lemmas.Bool.Decides.{nat_tests}
 use Rattle.std.proofs.lemmas.Option.{same_Some}
 use Rattle.query_words.specs.Words.{words_of}
-use Rattle.auction_types.specs.declared.limits.TheConstants.{BID_MIN, BID_MAX}
+use Rattle.auction_types.specs.declared.limits.TheConstants.{BID_MIN, BID_MAX, QUALITY_MIN, QUALITY_MAX}
 use Rattle.desk_types.specs.declared.call.Call.{Call}
-use Rattle.desk_types.specs.declared.call.Call.TheVariants.{AddAccount, AddCampaign, AddLine, AddNegative, DropNegative, Search, Click}
+use Rattle.desk_types.specs.declared.call.Call.TheVariants.{AddAccount, SetQuality, Suspend, AddCampaign, AddLine, SetBid, Pause, AddNegative, DropNegative, Import, Search, Click}
+use Rattle.desk_types.specs.declared.call.ImportRow.{ImportRow}
+use Rattle.desk_types.specs.declared.call.Part.{Part}
+use Rattle.desk_types.specs.declared.call.Part.TheVariants.{OfCampaign, OfLine}
 use Rattle.desk_types.specs.declared.refusal.Refusal.{Refusal}
+use Rattle.desk_types.specs.declared.refusal.Refusal.TheVariants.{BadRow}
+use Rattle.desk_types.specs.declared.rows.Account.{Account}
+use Rattle.desk_types.specs.declared.rows.Batch.{Batch}
 use Rattle.desk_types.specs.declared.rows.BudgetSet.{BudgetSet}
 use Rattle.desk_types.specs.declared.rows.Campaign.{Campaign}
 use Rattle.desk_types.specs.declared.rows.Fate.TheVariants.{Settled}
 use Rattle.desk_types.specs.declared.rows.Line.{Line}
 use Rattle.desk_types.specs.declared.rows.Negative.{Negative}
 use Rattle.desk_types.specs.declared.rows.Placement.{Placement}
-use Rattle.desk_types.specs.declared.tables.Change.TheVariants.{PutCampaign, PutBudget, PutLine, PutNegative, PutPlacement, PutFate}
-use Rattle.auction_types.specs.AdValue.{AdValue, IsBid}
-use Rattle.desk_types.specs.Changes.{all_placed, changes, drop_of, line_made, live_again, placed, placements_for, settlement}
+use Rattle.desk_types.specs.declared.tables.Change.TheVariants.{PutAccount, PutCampaign, PutBudget, PutLine, PutNegative, PutPlacement, PutBatch, PutFate}
+use Rattle.desk_types.specs.declared.tables.Tables.{Tables}
+use Rattle.auction_types.specs.AdValue.{AdValue, IsBid, IsInRange, IsQuality}
+use Rattle.desk_types.specs.Asked.{asked_by, line_made, lines_made, with_line}
+use Rattle.desk_types.specs.Changes.{all_placed, changes, drop_of, import_of, live_again, placed, placements_for, put_found, settlement, switch_of}
 use Rattle.desk_types.specs.Day.{day_of}
-use Rattle.desk_types.specs.Eligible.{entrants_for}
-use Rattle.desk_types.specs.Judged.{AskedLine, dropped_negative, first, is_within, judged, page_of, places_of, refusals, when}
-use Rattle.desk_types.specs.Keys.{campaign_key, is_same_key, line_key, negative_key, placement_key}
+use Rattle.desk_types.specs.Eligible.{ad_of, entrants_for}
+use Rattle.desk_types.specs.Judged.{AskedLine, bad_rows, dropped_negative, first, import_rows, is_within, judged, line_rows, page_of, places_of, refusals, when}
+use Rattle.desk_types.specs.Keys.{account_key, batch_key, campaign_key, is_same_key, line_key, negative_key, placement_key}
 use Rattle.desk_types.specs.Money.{budget, escrowed, is_escrowed, is_set_by, spent, used}
 use Rattle.auction_types.specs.Price.{price}
+use Rattle.desk_types.specs.Refusal.{number_of}
 use Rattle.desk_types.specs.Sound.{IsSound}
 use Rattle.desk_types.specs.State.{State}
-use Rattle.desk_types.specs.Tables.{campaign_of, campaigns_of, has_key, line_of, negative_of, placement_of, put, put_row}
+use Rattle.desk_types.specs.Tables.{account_of, batch_of, campaign_of, campaigns_of, has_key, line_of, negative_of, placement_of, put, put_row}
 use Rattle.desk_types.proofs.Budgets.{budget-none}
 use Rattle.desk_types.proofs.Costs.{cost, cost-other, free-pays}
 use Rattle.desk_types.proofs.EachRow.{Each}
 use Rattle.desk_types.proofs.SecondPrice.{apart_entrants, apart_page, entrant_line, fit_entrant, lines_in_range, page_among}
 use Rattle.desk_types.proofs.InOrder.{Each-from_All}
 use Rattle.auction_types.proofs.Accounts.{AreApart}
-use Rattle.desk_types.proofs.Lawful.{AreLawful, IsOnward, IsPayable, changed, finds_two, found_all, used-shown, within_used}
+use Rattle.desk_types.proofs.Lawful.{AreLawful, IsGoodLine, IsOnward, IsPayable, changed, finds_one, finds_two, found_all, used-shown, within_used}
 use Rattle.auction_types.proofs.Members.{Has}
 use Rattle.desk_types.proofs.Numbering.{group_new, next_last, next_new}
 use Rattle.auction_types.proofs.PriceLemmas.{price-le-bid}
@@ -65,6 +74,18 @@ found_has key test (r ∷ rows) x h =
           ap (λ b. b || has_key key (key x) rows) (key_same (key r) (key x) (ap key e))
       | inr t ↦ or_right (is_same_key (key r) (key x)) (has_key key (key x) rows) (found_has key test rows x (sym (cond-false (test r) (Some r) (find test rows) t) ∙ h))
     ]
+
+-- what is found passes the test
+pub found_test : {A : Type 0} (test : A → Bool) (rows : List A) (x : A) → find test rows ≡ Some x → test x ≡ true
+found_test test [] x h = absurd cc
+found_test test (r ∷ rows) x h =
+    elim (cases_Bool (test r)) [
+      | inl t ↦ subst (λ y. test y ≡ true) (same_Some r x (sym (cond-true (test r) (Some r) (find test rows) t) ∙ h)) t
+      | inr t ↦ found_test test rows x (sym (cond-false (test r) (Some r) (find test rows) t) ∙ h)
+    ]
+
+pair_parts : (a b x y : ℕ) → a ∷ b ∷ [] ≡ x ∷ y ∷ [] → (a ≡ x) × (b ≡ y)
+pair_parts a b x y e = (cc, cc)
 
 -- the settings of a campaign are those of one that is there
 no_setting : (S : State) (account campaign day : ℕ) (bs : List BudgetSet) → is_some (campaign_of S.tables account campaign) ≡ false
@@ -109,7 +130,7 @@ lawful_campaign S account amount h =
       ),
     )
 
-from_not : (b : Bool) → not b ≡ false → b ≡ true
+pub from_not : (b : Bool) → not b ≡ false → b ≡ true
 from_not true h = refl
 from_not false h = absurd cc
 
@@ -131,6 +152,90 @@ lawful_line S account asked h within =
       },
       tt,
     )
+
+quality_in : (quality : ℕ) → is_within QUALITY_MIN QUALITY_MAX quality ≡ true → IsQuality quality
+quality_in quality within = grind (arith, nat_tests, within)
+
+-- a line that is there, with another bid, quality or switch
+lawful_changed : (S : State) (account number : ℕ) (l new : Line) → line_of S.tables account number ≡ Some l → line_key new ≡ line_key l → IsInRange (ad_of new) → new.link ≡ l.link → IsGoodLine S new
+lawful_changed S account number l new is same in_range link =
+    let test = λ (k : Line). k.account == account && k.number == number in
+    let here = and_parts (l.account == account) (l.number == number) (found_test test S.tables.lines l is) in
+    let parts = pair_parts new.account new.number l.account l.number same in
+    record {
+      in_range = in_range;
+      next = inl (subst (λ k. has_key line_key k S.tables.lines ≡ true) (sym same) (found_has line_key test S.tables.lines l is));
+      same_link = λ old known.
+          let before : line_of S.tables new.account new.number ≡ Some l =
+          (λ i. line_of S.tables ((parts.0 ∙ eqb-true l.account account here.0) i) ((parts.1 ∙ eqb-true l.number number here.1) i)) ∙ is in
+          link ∙ ap (λ (k : Line). k.link) (same_Some l old (sym before ∙ known));
+    }
+
+-- a line that is found is put with a change to it
+lawful_line_found : (S : State) (account number : ℕ) (new : Line → Line) (found : Option Line) → line_of S.tables account number ≡ found → IsSound S
+    → ((l : Line) → line_key (new l) ≡ line_key l) → ((l : Line) → IsInRange (ad_of l) → IsInRange (ad_of (new l))) → ((l : Line) → (new l).link ≡ l.link)
+    → AreLawful S (put_found (λ l. PutLine (new l)) found)
+lawful_line_found S account number new None is h same in_range link = tt
+lawful_line_found S account number new (Some l) is h same in_range link =
+    let known = found_all (λ (k : Line). IsInRange (ad_of k)) (λ (k : Line). k.account == account && k.number == number) S.tables.lines l h.in_range is in
+    (lawful_changed S account number l (new l) is (same l) (in_range l known.0) (link l), tt)
+
+-- the next account is new
+lawful_account : (S : State) (key : List ℕ) → IsSound S → AreLawful S (PutAccount (record { number = length S.tables.accounts + 1; key = key; suspended = false }) ∷ [])
+lawful_account S key h =
+    let a : Account = record { number = length S.tables.accounts + 1; key = key; suspended = false } in
+    let new = next_new account_key (λ (x : Account). x.number) a S.tables.accounts (λ x. refl) h.numbered.accounts refl in
+    let test = λ (x : Account). x.number == a.number in
+    let unknown : is_some (account_of S.tables a.number) ≡ false = sym (has-find account_key (a.number ∷ []) test S.tables.accounts (finds_one account_key (λ (x : Account). x.number) a.number (λ x. refl))) ∙ new in
+    (record { next = inr refl; same_key = λ old known. absurd (both_ways _ unknown (ap is_some known)) }, tt)
+
+-- an account that is there keeps its key
+lawful_suspended : (S : State) (account : ℕ) (suspended : Bool) (found : Option Account) → account_of S.tables account ≡ found
+    → AreLawful S (put_found (λ a. PutAccount (record a { suspended = suspended })) found)
+lawful_suspended S account suspended None is = tt
+lawful_suspended S account suspended (Some a) is =
+    let test = λ (x : Account). x.number == account in
+    let here : a.number ≡ account = eqb-true a.number account (found_test test S.tables.accounts a is) in (
+      record {
+        next = inl (found_has account_key test S.tables.accounts a is);
+        same_key = λ old known. ap (λ (x : Account). x.key) (same_Some a old (sym (ap (account_of S.tables) here ∙ is) ∙ known));
+      },
+      tt,
+    )
+
+lawful_campaign_found : (S : State) (on : Bool) (test : Campaign → Bool) (found : Option Campaign) → find test S.tables.campaigns ≡ found
+    → AreLawful S (put_found (λ c. PutCampaign (record c { on = on })) found)
+lawful_campaign_found S on test None is = tt
+lawful_campaign_found S on test (Some c) is = (inl (found_has campaign_key test S.tables.campaigns c is), tt)
+
+lawful_switched : (S : State) (account : ℕ) (part : Part) (on : Bool) → IsSound S → AreLawful S (switch_of S.tables account part on)
+lawful_switched S account (OfCampaign campaign) on h = lawful_campaign_found S on _ (campaign_of S.tables account campaign) refl
+lawful_switched S account (OfLine line) on h = lawful_line_found S account line (λ l. record l { on = on }) (line_of S.tables account line) refl h (λ l. refl) (λ l k. k) (λ l. refl)
+
+no_cause : (number : ℕ) (o : Option Refusal) → option_map (λ cause. BadRow number (number_of cause)) o ≡ None → o ≡ None
+no_cause number None h = refl
+no_cause number (Some cause) h = absurd cc
+
+-- the lines of an import, each behind those before it, and then the batch
+lawful_lines : (S : State) (account number : ℕ) (rows : List ImportRow) (b : Batch) → IsSound S → has_key batch_key (batch_key b) S.tables.batches ≡ false → Each (λ o. o ≡ None) (bad_rows S.tables account number rows)
+    → AreLawful S (map PutLine (lines_made S.tables account rows) ++ PutBatch b ∷ [])
+unfolding put
+lawful_lines S account number [] b h new good = (new, tt)
+lawful_lines S account number (row ∷ rows) b h new good =
+    let asked : AskedLine = asked_by row in
+    let made : Line = line_made S.tables account asked in
+    let none = none_holds (line_rows S.tables account asked) (no_cause number _ good.0) in
+    let fits : AreLawful S (PutLine made ∷ []) = lawful_line S account asked h (from_not (is_within BID_MIN BID_MAX row.bid) (not_when _ _ none.1.0)) in
+    (fits.0, lawful_lines (changed S (PutLine made)) account (number + 1) rows b (sound_put S (PutLine made) h fits.0) new good.1)
+
+lawful_import : (S : State) (account number : ℕ) (rows : List ImportRow) (found : Option Batch) → batch_of S.tables account number ≡ found → IsSound S → Each (λ o. o ≡ None) (import_rows S.tables account found rows)
+    → AreLawful S (import_of S.tables account number rows found)
+lawful_import S account number rows (Some there) is h good = tt
+lawful_import S account number rows None is h good =
+    let test = λ (b : Batch). b.account == account && b.number == number in
+    let new : has_key batch_key (account ∷ number ∷ []) S.tables.batches ≡ false =
+    has-find batch_key (account ∷ number ∷ []) test S.tables.batches (finds_two batch_key (λ (b : Batch). b.account) (λ b. b.number) account number (λ x. refl)) ∙ ap is_some is in
+    lawful_lines S account 1 rows _ h new good.1
 
 lawful_live : (S : State) (account campaign : ℕ) (new : Negative) (dropped : Option Negative) (test : Negative → Bool) → find test S.tables.negatives ≡ dropped
     → new.number ≡ count_by (λ (n : Negative). n.account == new.account) S.tables.negatives + 1 → AreLawful S (PutNegative (live_again new dropped) ∷ [])
@@ -206,14 +311,27 @@ lawful_search S text places h =
 
 pub lawful_call : (S : State) (call : Call) → IsSound S → judged S call ≡ None → AreLawful S (changes S call)
 unfolding changes refusals
-lawful_call S (AddAccount key) h accepts = (inr refl, tt)
+lawful_call S (AddAccount key) h accepts = lawful_account S key h
+lawful_call S (SetQuality account line quality) h accepts =
+    let none = none_holds (refusals S (SetQuality account line quality)) accepts in
+    let within = quality_in quality (from_not (is_within QUALITY_MIN QUALITY_MAX quality) (not_when _ _ none.1.1.0)) in
+    lawful_line_found S account line (λ l. record l { quality = quality }) (line_of S.tables account line) refl h (λ l. refl) (λ l k. (k.0, within)) (λ l. refl)
+lawful_call S (Suspend account suspended) h accepts = lawful_suspended S account suspended (account_of S.tables account) refl
 lawful_call S (AddCampaign account key budget) h accepts = lawful_campaign S account budget h
 lawful_call S (AddLine account key campaign bid pattern headline link) h accepts =
     let asked : AskedLine = record { campaign = campaign; bid = bid; pattern = pattern; headline = headline; link = link } in
     let none = none_holds (refusals S (AddLine account key campaign bid pattern headline link)) accepts in
     lawful_line S account asked h (from_not (is_within BID_MIN BID_MAX bid) (not_when _ _ none.1.1.1.0))
+lawful_call S (SetBid account key line bid) h accepts =
+    let none = none_holds (refusals S (SetBid account key line bid)) accepts in
+    let within = bid_in bid (from_not (is_within BID_MIN BID_MAX bid) (not_when _ _ none.1.1.1.0)) in
+    lawful_line_found S account line (λ l. record l { bid = bid }) (line_of S.tables account line) refl h (λ l. refl) (λ l k. (within, k.1)) (λ l. refl)
+lawful_call S (Pause account key part on) h accepts = lawful_switched S account part on h
 lawful_call S (AddNegative account key campaign pattern) h accepts =
     lawful_live S account campaign _ (dropped_negative S.tables account campaign pattern) _ refl refl
 lawful_call S (DropNegative account key negative) h accepts = lawful_drop S _ (negative_of S.tables account negative) refl
+lawful_call S (Import account key batch rows) h accepts =
+    let none = none_holds (refusals S (Import account key batch rows)) accepts in
+    lawful_import S account batch rows (batch_of S.tables account batch) refl h none.1.1.1
 lawful_call S (Search text places) h accepts = lawful_search S text places h
 lawful_call S (Click placement) h accepts = lawful_click S placement (placement_of S.tables placement) refl h

@@ -1,24 +1,27 @@
 -- The edition rises with each change of the catalogue.
-use Rattle.std.proofs.Common.{◌≡◌, ℕ, ◌+◌, ◌≤◌, true, false, if◌then◌else◌, inl, inr, Option, None, Some, List, [], ◌∷◌, ◌++◌, map, refl, sym, ap, ◌∙◌, arith}
+use Rattle.std.proofs.Common.{◌≡◌, ℕ, ◌+◌, ◌≤◌, true, false, if◌then◌else◌, inl, inr, Option, None, Some, is_none, List, [], ◌∷◌, ◌++◌, map, refl, sym, ap, ◌∙◌, arith}
 use Rattle.std.proofs.lemmas.Bool.{cases_Bool}
 use Rattle.desk_types.specs.declared.call.Call.{Call}
-use Rattle.desk_types.specs.declared.call.Call.TheVariants.{AddAccount, AddCampaign, AddLine, AddNegative, DropNegative, Search, Click}
+use Rattle.desk_types.specs.declared.call.Call.TheVariants.{AddAccount, SetQuality, Suspend, AddCampaign, AddLine, SetBid, Pause, AddNegative, DropNegative, Import, Search, Click}
+use Rattle.desk_types.specs.declared.call.ImportRow.{ImportRow}
 use Rattle.desk_types.specs.declared.entry.Entry.{Entry}
 use Rattle.desk_types.specs.declared.entry.Outcome.{Outcome}
 use Rattle.desk_types.specs.declared.entry.Outcome.TheVariants.{Answered, Faulted}
 use Rattle.desk_types.specs.declared.refusal.Refusal.{Refusal}
+use Rattle.desk_types.specs.declared.rows.Batch.{Batch}
 use Rattle.desk_types.specs.declared.rows.Fate.{Fate}
 use Rattle.desk_types.specs.declared.rows.Fate.TheVariants.{Settled}
 use Rattle.desk_types.specs.declared.rows.Placement.{Placement}
 use Rattle.desk_types.specs.declared.tables.Change.{Change}
 use Rattle.desk_types.specs.declared.tables.Change.TheVariants.{PutAccount, PutCampaign, PutBudget, PutLine, PutNegative, PutPlacement, PutBatch, PutFate}
-use Rattle.desk_types.specs.Changes.{changes, placements_for, raises_edition, settlement}
+use Rattle.desk_types.specs.declared.tables.Tables.{Tables}
+use Rattle.desk_types.specs.Changes.{changes, import_of, placements_for, raises_edition, settlement}
 use Rattle.desk_types.specs.Judged.{judged}
 use Rattle.desk_types.specs.Money.{is_escrowed}
 use Rattle.desk_types.specs.Run.{after, run}
 use Rattle.desk_types.specs.State.{State, catalogue}
 use Rattle.desk_types.specs.Step.{accepted, answered, at_moment, next_edition, step}
-use Rattle.desk_types.specs.Tables.{placement_of, put, put_all, put_fate}
+use Rattle.desk_types.specs.Tables.{batch_of, placement_of, put, put_all, put_fate}
 use Rattle.desk_types.proofs.EachRow.{Each}
 use Rattle.desk_types.proofs.Lawful.{changed}
 
@@ -79,14 +82,24 @@ money_settled moment None = tt
 money_settled moment (Some p) =
     elim (is_escrowed moment p) as (λ b. Each IsOfMoney (if b then PutFate p.number (Settled moment) ∷ [] else [])) [ true ↦ (tt, tt) | false ↦ tt ]
 
+-- an import of a batch that is there changes nothing
+money_imported : (T : Tables) (account number : ℕ) (rows : List ImportRow) (found : Option Batch) → is_none found ≡ false → Each IsOfMoney (import_of T account number rows found)
+money_imported T account number rows (Some b) h = tt
+money_imported T account number rows None h = absurd cc
+
 -- a call with which the edition stays changes money alone
 money_alone : (S : State) (call : Call) → raises_edition S call ≡ false → Each IsOfMoney (changes S call)
 unfolding changes raises_edition
 money_alone S (AddAccount key) h = absurd cc
+money_alone S (SetQuality account line quality) h = absurd cc
+money_alone S (Suspend account suspended) h = absurd cc
 money_alone S (AddCampaign account key budget) h = absurd cc
 money_alone S (AddLine account key campaign bid pattern headline link) h = absurd cc
+money_alone S (SetBid account key line bid) h = absurd cc
+money_alone S (Pause account key part on) h = absurd cc
 money_alone S (AddNegative account key campaign pattern) h = absurd cc
 money_alone S (DropNegative account key negative) h = absurd cc
+money_alone S (Import account key batch rows) h = money_imported S.tables account batch rows (batch_of S.tables account batch) h
 money_alone S (Search text places) h = money_shown (placements_for S text places)
 money_alone S (Click placement) h = money_settled S.moment (placement_of S.tables placement)
 

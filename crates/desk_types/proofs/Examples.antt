@@ -1,5 +1,5 @@
 -- Worked examples of the ledger, computed.
-use Rattle.std.proofs.Common.{◌≡◌, ℕ, map, List, [], ◌∷◌, ◌++◌, None, refl}
+use Rattle.std.proofs.Common.{◌≡◌, ℕ, true, false, map, List, [], ◌∷◌, ◌++◌, None, refl}
 use Rattle.std.specs.Prelude.{codes, pos}
 use lib.Utf8.{encode}
 use Rattle.std.specs.Str.{chars}
@@ -10,11 +10,13 @@ use Rattle.match_types.specs.Marks.{trimmed}
 use Rattle.match_types.specs.Pattern.{refusal}
 use Rattle.match_types.specs.Tests.{meets, is_same_pattern}
 use Rattle.desk_types.specs.declared.call.Call.{Call}
-use Rattle.desk_types.specs.declared.call.Call.TheVariants.{AddAccount, AddCampaign, AddLine, AddNegative, DropNegative, Search, Click}
+use Rattle.desk_types.specs.declared.call.Call.TheVariants.{AddAccount, SetQuality, Suspend, AddCampaign, AddLine, SetBid, Pause, AddNegative, DropNegative, Import, Search, Click}
+use Rattle.desk_types.specs.declared.call.ImportRow.{ImportRow}
+use Rattle.desk_types.specs.declared.call.Part.TheVariants.{OfCampaign, OfLine}
 use Rattle.desk_types.specs.declared.refusal.Refusal.TheVariants as refused
 use Rattle.desk_types.specs.declared.refusal.Field.TheVariants as field
 use Rattle.desk_types.specs.declared.reply.Reply.{Reply}
-use Rattle.desk_types.specs.declared.reply.Reply.TheVariants.{Made, Done, Page, Went, Refused}
+use Rattle.desk_types.specs.declared.reply.Reply.TheVariants.{Made, Done, Imported, Page, Went, Refused}
 use Rattle.desk_types.specs.declared.reply.Spot.{Spot}
 use Rattle.desk_types.specs.Changes.{changes, raises_edition, reply}
 use Rattle.desk_types.specs.Eligible.{is_candidate}
@@ -119,3 +121,27 @@ rows_by_key : let T = (left (empty usual) turns).tables in
     × (map {B = ℕ × ℕ} (λ l. (l.account, l.campaign)) T.lines ≡ (1, 1) ∷ (2, 2) ∷ [])
 unfolding everything secret link turns left
 rows_by_key = (refl, refl, refl)
+
+-- what is suspended or off does not compete, and the bid and the quality that were set decide
+changed_rows : replies (empty usual) (with_budget 1000 ++ (100, Suspend 1 true) ∷ (100, Search (codes "shoes") None) ∷ (100, Suspend 1 false)
+    ∷ (100, Pause 1 secret (OfCampaign 1) false) ∷ (100, Search (codes "shoes") None) ∷ (100, Pause 1 secret (OfCampaign 1) true)
+    ∷ (100, Pause 1 secret (OfLine 1) false) ∷ (100, Search (codes "shoes") None) ∷ (100, Pause 1 secret (OfLine 1) true)
+    ∷ (100, SetBid 1 secret 1 4) ∷ (100, Search (codes "shoes") None) ∷ (100, SetBid 1 secret 1 50) ∷ (100, SetQuality 1 1 0) ∷ (100, Search (codes "shoes") None) ∷ [])
+    ≡ Made 1 ∷ Made 1 ∷ Made 1 ∷ Done ∷ Page [] ∷ Done ∷ Done ∷ Page [] ∷ Done ∷ Done ∷ Page [] ∷ Done ∷ Done ∷ Page [] ∷ Done
+    ∷ Refused (refused.BadField field.Quality) ∷ Page (spot 1 ∷ []) ∷ []
+unfolding everything secret link with_budget spot
+changed_rows = refl
+
+asks : ℕ → List ℕ → ImportRow
+asks bid pattern = record { campaign = 1; bid = bid; pattern = pattern; headline = codes "A"; link = codes "http://s.example/a" }
+
+import : List ImportRow → ℕ × Call
+import rows = (100, Import 1 secret 5 rows)
+
+-- a bad row is named with its cause, and keeps the others out; a batch that comes again is answered as before
+imported_once : replies (empty usual) (with_budget 1000 ++ import (asks 20 (codes "a") ∷ asks 0 (codes "b") ∷ asks 20 (codes "c") ∷ [])
+    ∷ import (asks 20 (codes "a") ∷ asks 20 (codes "b") ∷ asks 20 (codes "A") ∷ []) ∷ import (asks 20 (codes "a") ∷ asks 20 (codes "b") ∷ asks 20 (codes "c") ∷ [])
+    ∷ import (asks 0 [] ∷ []) ∷ [])
+    ≡ Made 1 ∷ Made 1 ∷ Made 1 ∷ Refused (refused.BadRow 2 7) ∷ Refused (refused.BadRow 3 9) ∷ Imported 2 3 ∷ Imported 2 3 ∷ []
+unfolding everything secret link with_budget asks import
+imported_once = refl

@@ -5,6 +5,7 @@ use Rattle.std.specs.List.{All, sum_by}
 use Rattle.std.proofs.lemmas.Bool.{cases_Bool, cond-true, cond-false, and_parts, eqb-true}
 use Rattle.std.proofs.lemmas.Bool.Decides.{nat_tests}
 use Rattle.std.proofs.lemmas.Option.{same_Some}
+use Rattle.desk_types.specs.declared.rows.Account.{Account}
 use Rattle.desk_types.specs.declared.rows.BudgetSet.{BudgetSet}
 use Rattle.desk_types.specs.declared.rows.Fate.{Fate}
 use Rattle.desk_types.specs.declared.rows.Fate.TheVariants.{Open, Settled, Credited}
@@ -15,11 +16,11 @@ use Rattle.desk_types.specs.declared.tables.Change.TheVariants.{PutAccount, PutC
 use Rattle.auction_types.specs.AdValue.{IsInRange}
 use Rattle.desk_types.specs.Day.{day_of}
 use Rattle.desk_types.specs.Eligible.{ad_of}
-use Rattle.desk_types.specs.Keys.{account_key, budget_key, campaign_key, is_same_key, line_key, negative_key, placement_key}
+use Rattle.desk_types.specs.Keys.{account_key, batch_key, budget_key, campaign_key, is_same_key, line_key, negative_key, placement_key}
 use Rattle.desk_types.specs.Money.{budget, escrowed, is_escrowed, is_shown_on, spent, used}
 use Rattle.desk_types.specs.Sound.{IsSound, StaysWithinBudgets}
 use Rattle.desk_types.specs.State.{State}
-use Rattle.desk_types.specs.Tables.{campaign_of, has_key, line_of, placement_of, put, put_row}
+use Rattle.desk_types.specs.Tables.{account_of, campaign_of, has_key, line_of, placement_of, put, put_row}
 use Rattle.desk_types.proofs.Budgets.{budget-put}
 use Rattle.desk_types.proofs.Costs.{cost, cost-credited, cost-open, cost-other, cost-settled, free-holds, free-within, used-costs}
 use Rattle.desk_types.proofs.EachRow.{All-from_Each, Each}
@@ -35,6 +36,11 @@ changed S change = record S { tables = put S.tables change }
 pub record IsCovered (S : State) (b : BudgetSet) : Type 0 where
   pub there : is_some (campaign_of S.tables b.account b.campaign) ≡ true
   pub covers : (day : ℕ) → day_of b.at ≤ day → used S b.account b.campaign day ≤ b.amount
+
+-- an account that keeps the key of the one whose place it takes
+pub record IsGoodAccount (S : State) (a : Account) : Type 0 where
+  pub next : (has_key account_key (account_key a) S.tables.accounts ≡ true) ⊎ (a.number ≡ length S.tables.accounts + 1)
+  pub same_key : (old : Account) → account_of S.tables a.number ≡ Some old → a.key ≡ old.key
 
 -- a line with bid and quality in range, which keeps the link of the one whose place it takes
 pub record IsGoodLine (S : State) (l : Line) : Type 0 where
@@ -61,14 +67,14 @@ IsOnward moment fate None = Unit {0}
 
 -- what a change is to be
 abbrev pub IsLawful : State → Change → Type 0
-IsLawful S (PutAccount a) = (has_key account_key (account_key a) S.tables.accounts ≡ true) ⊎ (a.number ≡ length S.tables.accounts + 1)
+IsLawful S (PutAccount a) = IsGoodAccount S a
 IsLawful S (PutCampaign c) = IsThereOrNext campaign_key (λ k. k.account) (λ k. k.number) c S.tables.campaigns
 IsLawful S (PutBudget b) = IsCovered S b
 IsLawful S (PutLine l) = IsGoodLine S l
 IsLawful S (PutNegative n) = IsThereOrNext negative_key (λ k. k.account) (λ k. k.number) n S.tables.negatives
 IsLawful S (PutPlacement p) = IsPayable S p
 IsLawful S (PutFate number fate) = IsOnward S.moment fate (placement_of S.tables number)
-IsLawful S (PutBatch b) = Unit {0}
+IsLawful S (PutBatch b) = has_key batch_key (batch_key b) S.tables.batches ≡ false
 
 abbrev pub AreLawful : State → List Change → Type 0
 AreLawful S [] = Unit {0}

@@ -10,9 +10,12 @@ pub mod InOrder
 pub mod Lawful
 pub mod Legality
 pub mod Numbering
+pub mod OwnRows
 pub mod Prefixes
 pub mod Puts
 pub mod Refusing
+pub mod Repeating
 pub mod SecondPrice
 pub mod ServedInTurn
 pub mod Sound
+pub mod Switching

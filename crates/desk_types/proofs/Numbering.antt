@@ -155,9 +155,9 @@ alike_in_group key group number row g is x same =
 lower_key : (g m n : ℕ) → m < n → is_less_key (g ∷ m ∷ []) (g ∷ n ∷ []) ≡ true
 lower_key g m n h = grind (arith, nat_tests)
 
-below_next : {A : Type 0} (key : A → List ℕ) (group number : A → ℕ) (row : A) (rows : List A) → IsKeyOf key group number → RunInGroups group number rows
+below_in : {A : Type 0} (key : A → List ℕ) (group number : A → ℕ) (row : A) (rows : List A) → IsKeyOf key group number → RunFromOne (map number (filter (λ x. group x == group row) rows))
     → number row ≡ count_by (λ x. group x == group row) rows + 1 → Below key row (λ x. group x == group row) rows
-below_next {A} key group number row rows is runs next =
+below_in {A} key group number row rows is run next =
     let test = λ (x : A). group x == group row in
     let n = length (map number (filter test rows)) in
     let count : n ≡ count_by test rows = length-map (filter test rows) number ∙ length_kept test rows in
@@ -166,7 +166,11 @@ below_next {A} key group number row rows is runs next =
     let group_is = eqb-true (group x) (group row) same in
     let lower = lower_key (group row) (number x) (number row) (omega (arith, low same, count, next)) in
     subst (λ k. is_less_key k (key row) ≡ true) (sym (is x ∙ ap (λ g. g ∷ number x ∷ []) group_is)) (subst (λ k. is_less_key (group row ∷ number x ∷ []) k ≡ true) (sym (is row)) lower))
-    (numbers_below test number rows 1 n (runs (group row)))
+    (numbers_below test number rows 1 n run)
+
+below_next : {A : Type 0} (key : A → List ℕ) (group number : A → ℕ) (row : A) (rows : List A) → IsKeyOf key group number → RunInGroups group number rows
+    → number row ≡ count_by (λ x. group x == group row) rows + 1 → Below key row (λ x. group x == group row) rows
+below_next key group number row rows is runs next = below_in key group number row rows is (runs (group row)) next
 
 groups_there : {A : Type 0} (key : A → List ℕ) (group number : A → ℕ) (row : A) (rows : List A) → IsKeyOf key group number → RunInGroups group number rows
     → RunInGroups group number (replaced key row rows)
@@ -267,6 +271,16 @@ pub group_new : {A : Type 0} (key : A → List ℕ) (group number : A → ℕ) (
 group_new key group number row rows is runs next =
     none_in_group key group row rows (λ x same. (pair_parts (group x) (number x) (group row) (number row) (sym (is x) ∙ same_key (key x) (key row) same ∙ is row)).0)
     (below_next key group number row rows is runs next)
+
+-- the next row of a group goes behind the others of the group
+pub group_put_next : {A : Type 0} (key : A → List ℕ) (group number : A → ℕ) (row : A) (rows : List A) → IsKeyOf key group number → Ordered key rows
+    → RunFromOne (map number (filter (λ x. group x == group row) rows)) → number row ≡ count_by (λ x. group x == group row) rows + 1
+    → filter (λ x. group x == group row) (put_row key row rows) ≡ filter (λ x. group x == group row) rows ++ row ∷ []
+group_put_next {A} key group number row rows is order run next =
+    let test = λ (x : A). group x == group row in
+    let below = below_in key group number row rows is run next in
+    let new = none_in_group key group row rows (λ x same. (pair_parts (group x) (number x) (group row) (number row) (sym (is x) ∙ same_key (key x) (key row) same ∙ is row)).0) below in
+    ap (filter test) (put_new key row rows new) ∙ filter-inserted_last key row test rows (eq-eqb (group row) (group row) refl) order below
 
 pub run_next : {A : Type 0} (number : A → ℕ) (row : A) (rows : List A) → RunFromOne (map number rows) → number row ≡ length rows + 1 → RunFromOne (map number (rows ++ row ∷ []))
 run_next number row rows run next =

@@ -85,7 +85,7 @@ sound_put S (PutAccount a) h lawful =
     record {
       moment = h.moment;
       in_order = StandInOrder-put S.tables (PutAccount a) h.in_order;
-      numbered = record { accounts = numbers-put account_key (λ x. x.number) a S.tables.accounts (λ x. refl) h.numbered.accounts lawful; campaigns = h.numbered.campaigns; lines = h.numbered.lines; negatives = h.numbered.negatives; placements = h.numbered.placements };
+      numbered = record { accounts = numbers-put account_key (λ x. x.number) a S.tables.accounts (λ x. refl) h.numbered.accounts lawful.next; campaigns = h.numbered.campaigns; lines = h.numbered.lines; negatives = h.numbered.negatives; placements = h.numbered.placements };
       in_range = h.in_range;
       named = record { budgets = h.named.budgets; placements = h.named.placements };
       within_budgets = h.within_budgets;

@@ -1,43 +1,33 @@
 -- What an accepted call changes, and what it answers.
-use Rattle.std.specs.Prelude.{ℕ, ◌+◌, Bool, true, false, if◌then◌else◌, List, [], ◌∷◌, length, map, Option, None, Some, option_map, unwrap_or}
+use Rattle.std.specs.Prelude.{ℕ, ◌+◌, Bool, true, false, if◌then◌else◌, List, [], ◌∷◌, ◌++◌, length, map, Option, None, Some, is_none, option_map, unwrap_or}
 use Rattle.query_words.specs.Words.{words_of}
 use Rattle.match_types.specs.Pattern.{negative_text}
-use Rattle.match_types.specs.Marks.{trimmed}
-use Rattle.desk_types.specs.declared.limits.TheConstants.{CLICK_WINDOW, QUALITY_NEW}
+use Rattle.desk_types.specs.declared.limits.TheConstants.{CLICK_WINDOW}
 use Rattle.desk_types.specs.declared.call.Call.{Call}
-use Rattle.desk_types.specs.declared.call.Call.TheVariants.{AddAccount, AddCampaign, AddLine, AddNegative, DropNegative, Search, Click}
+use Rattle.desk_types.specs.declared.call.Call.TheVariants.{AddAccount, SetQuality, Suspend, AddCampaign, AddLine, SetBid, Pause, AddNegative, DropNegative, Import, Search, Click}
+use Rattle.desk_types.specs.declared.call.ImportRow.{ImportRow}
+use Rattle.desk_types.specs.declared.call.Part.{Part}
+use Rattle.desk_types.specs.declared.call.Part.TheVariants.{OfCampaign, OfLine}
 use Rattle.desk_types.specs.declared.reply.Reply.{Reply}
-use Rattle.desk_types.specs.declared.reply.Reply.TheVariants.{Made, Done, Page, Went}
+use Rattle.desk_types.specs.declared.reply.Reply.TheVariants.{Made, Done, Imported, Page, Went}
 use Rattle.desk_types.specs.declared.reply.Spot.{Spot}
+use Rattle.desk_types.specs.declared.rows.Batch.{Batch}
 use Rattle.desk_types.specs.declared.rows.Fate.TheVariants.{Open, Settled}
-use Rattle.desk_types.specs.declared.rows.Line.{Line}
 use Rattle.desk_types.specs.declared.rows.Negative.{Negative}
 use Rattle.desk_types.specs.declared.rows.Placement.{Placement}
 use Rattle.desk_types.specs.declared.tables.Change.{Change}
-use Rattle.desk_types.specs.declared.tables.Change.TheVariants.{PutAccount, PutCampaign, PutBudget, PutLine, PutNegative, PutPlacement, PutFate}
+use Rattle.desk_types.specs.declared.tables.Change.TheVariants.{PutAccount, PutCampaign, PutBudget, PutLine, PutNegative, PutPlacement, PutBatch, PutFate}
 use Rattle.desk_types.specs.declared.tables.Tables.{Tables}
 use Rattle.auction_types.specs.AdValue.{AdValue}
+pub use Rattle.desk_types.specs.Asked.{line_made}
+use Rattle.desk_types.specs.Asked.{lines_made}
 use Rattle.desk_types.specs.Eligible.{entrants_for}
-use Rattle.desk_types.specs.Judged.{AskedLine, dropped_negative, page_of}
+use Rattle.desk_types.specs.Judged.{dropped_negative, page_of}
 use Rattle.desk_types.specs.Money.{is_escrowed}
 use Rattle.auction_types.specs.Page.{place}
 use Rattle.auction_types.specs.Price.{price}
 use Rattle.desk_types.specs.State.{State}
-use Rattle.desk_types.specs.Tables.{campaigns_of, line_of, lines_of, negative_of, negatives_of, placement_of}
-
--- the line that an account gets for one that it asks for: its next one, with the quality of a new line, and on
-abbrev pub line_made : Tables → ℕ → AskedLine → Line
-line_made T account asked = record {
-  account = account;
-  number = lines_of T account + 1;
-  campaign = asked.campaign;
-  pattern = trimmed asked.pattern;
-  headline = asked.headline;
-  link = asked.link;
-  bid = asked.bid;
-  quality = QUALITY_NEW;
-  on = true;
-}
+use Rattle.desk_types.specs.Tables.{account_of, batch_of, campaign_of, campaigns_of, line_of, lines_of, negative_of, negatives_of, placement_of}
 
 -- a dropped negative that lives again, or else the account's next one
 abbrev pub live_again : Negative → Option Negative → Negative
@@ -59,6 +49,29 @@ negative_made T account campaign pattern =
 abbrev pub drop_of : Option Negative → List Change
 drop_of (Some n) = PutNegative (record n { live = false }) ∷ []
 drop_of None = []
+
+-- a row that is found is put with a change to it
+abbrev pub put_found : {A : Type 0} → (A → Change) → Option A → List Change
+put_found changed (Some row) = changed row ∷ []
+put_found changed None = []
+
+-- a campaign or a line is switched off or on
+abbrev pub switch_of : Tables → ℕ → Part → Bool → List Change
+switch_of T account (OfCampaign campaign) on =
+    put_found (λ c. PutCampaign (record c { on = on })) (campaign_of T account campaign)
+switch_of T account (OfLine line) on = put_found (λ l. PutLine (record l { on = on })) (line_of T account line)
+
+-- the batch of an import: the one that is there, or the one whose lines its rows make
+abbrev pub batch_made : Tables → ℕ → ℕ → List ImportRow → Option Batch → Batch
+batch_made T account number rows (Some there) = there
+batch_made T account number rows None =
+    record { account = account; number = number; first = lines_of T account + 1; count = length rows }
+
+-- an import puts the lines of its rows and the batch, or nothing where the batch is there
+abbrev pub import_of : Tables → ℕ → ℕ → List ImportRow → Option Batch → List Change
+import_of T account number rows (Some there) = []
+import_of T account number rows None =
+    map PutLine (lines_made T account rows) ++ PutBatch (batch_made T account number rows None) ∷ []
 
 -- the link and the headline of a line
 abbrev pub link_of : Tables → ℕ → ℕ → List ℕ
@@ -119,6 +132,10 @@ settlement moment None = []
 unfoldable pub changes : State → Call → List Change
 changes S (AddAccount key) =
     PutAccount (record { number = length S.tables.accounts + 1; key = key; suspended = false }) ∷ []
+changes S (SetQuality account line quality) =
+    put_found (λ l. PutLine (record l { quality = quality })) (line_of S.tables account line)
+changes S (Suspend account suspended) =
+    put_found (λ a. PutAccount (record a { suspended = suspended })) (account_of S.tables account)
 changes S (AddCampaign account key budget) =
     let number = campaigns_of S.tables account + 1 in
     PutCampaign (record { account = account; number = number; on = true })
@@ -127,28 +144,45 @@ changes S (AddCampaign account key budget) =
 changes S (AddLine account key campaign bid pattern headline link) =
     PutLine (line_made S.tables account
     (record { campaign = campaign; bid = bid; pattern = pattern; headline = headline; link = link })) ∷ []
+changes S (SetBid account key line bid) =
+    put_found (λ l. PutLine (record l { bid = bid })) (line_of S.tables account line)
+changes S (Pause account key part on) = switch_of S.tables account part on
 changes S (AddNegative account key campaign pattern) =
     PutNegative (negative_made S.tables account campaign pattern) ∷ []
 changes S (DropNegative account key negative) = drop_of (negative_of S.tables account negative)
+changes S (Import account key batch rows) =
+    import_of S.tables account batch rows (batch_of S.tables account batch)
 changes S (Search text places) = map PutPlacement (placements_for S text places)
 changes S (Click placement) = settlement S.moment (placement_of S.tables placement)
 
 -- the reply to an accepted call
 unfoldable pub reply : State → Call → Reply
 reply S (AddAccount key) = Made (length S.tables.accounts + 1)
+reply S (SetQuality account line quality) = Done
+reply S (Suspend account suspended) = Done
 reply S (AddCampaign account key budget) = Made (campaigns_of S.tables account + 1)
 reply S (AddLine account key campaign bid pattern headline link) = Made (lines_of S.tables account + 1)
+reply S (SetBid account key line bid) = Done
+reply S (Pause account key part on) = Done
 reply S (AddNegative account key campaign pattern) = Made (negative_made S.tables account campaign pattern).number
 reply S (DropNegative account key negative) = Done
+reply S (Import account key batch rows) =
+    let b = batch_made S.tables account batch rows (batch_of S.tables account batch) in
+    Imported b.first b.count
 reply S (Search text places) = Page (map (spot_of S.tables) (placements_for S text places))
 reply S (Click placement) = Went (link_clicked S.tables placement)
 
 -- whether the edition rises with an accepted call
 unfoldable pub raises_edition : State → Call → Bool
 raises_edition S (AddAccount key) = true
+raises_edition S (SetQuality account line quality) = true
+raises_edition S (Suspend account suspended) = true
 raises_edition S (AddCampaign account key budget) = true
 raises_edition S (AddLine account key campaign bid pattern headline link) = true
+raises_edition S (SetBid account key line bid) = true
+raises_edition S (Pause account key part on) = true
 raises_edition S (AddNegative account key campaign pattern) = true
 raises_edition S (DropNegative account key negative) = true
+raises_edition S (Import account key batch rows) = is_none (batch_of S.tables account batch)
 raises_edition S (Search text places) = false
 raises_edition S (Click placement) = false

@@ -1,7 +1,9 @@
 -- What holds of the ledger, in the words of the subject.
 use Rattle.std.specs.Prelude.{◌≡◌, ℕ, ◌+◌, List, ◌++◌, length, map, Option, Contains}
 use Rattle.query_words.specs.Words.{words_of}
+use Rattle.desk_types.specs.declared.call.Call.{Call}
 use Rattle.desk_types.specs.declared.call.Call.TheVariants.{Click}
+use Rattle.desk_types.specs.declared.reply.Reply.{Reply}
 use Rattle.desk_types.specs.declared.reply.Reply.TheVariants.{Went}
 use Rattle.desk_types.specs.declared.reply.Spot.{Spot}
 use Rattle.desk_types.specs.declared.rows.Placement.{Placement}
@@ -35,3 +37,8 @@ pub record IsPageAnswered (S : State) (text : List ℕ) (places : Option ℕ) (s
 pub record ChangesNoRow (S : State) (moment placement : ℕ) (link : List ℕ) : Type 0 where
   pub rows : IsSameButForMoment S (step S moment (Click placement)).state
   pub reply : (step S moment (Click placement)).reply ≡ Went link
+
+-- a call changes no row, and has this reply
+pub record RepliesAlone (S : State) (moment : ℕ) (call : Call) (answer : Reply) : Type 0 where
+  pub rows : IsSameButForMoment S (step S moment call).state
+  pub reply : (step S moment call).reply ≡ answer

@@ -1,3 +1,4 @@
+pub mod Asked
 pub mod Changes
 pub mod Day
 pub mod Eligible
@@ -7,6 +8,7 @@ pub mod Judged
 pub mod Keys
 pub mod LedgerLaws
 pub mod Money
+pub mod Own
 pub mod Refusal
 pub mod Run
 pub mod Serving

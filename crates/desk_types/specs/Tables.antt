@@ -2,6 +2,7 @@
 use Rattle.std.specs.Prelude.{ℕ, Bool, ◌==◌, ◌&&◌, if◌then◌else◌, List, [], ◌∷◌, Option, Some, None, find, count_by}
 use Rattle.std.specs.List.{list_any}
 use Rattle.desk_types.specs.declared.rows.Account.{Account}
+use Rattle.desk_types.specs.declared.rows.Batch.{Batch}
 use Rattle.desk_types.specs.declared.rows.Campaign.{Campaign}
 use Rattle.desk_types.specs.declared.rows.Fate.{Fate}
 use Rattle.desk_types.specs.declared.rows.Line.{Line}
@@ -24,7 +25,7 @@ no_rows = record {
   batches = [];
 }
 
--- the account, campaign, line, negative or placement of a number, if there is one
+-- the account, campaign, line, negative, placement or batch of a number, if there is one
 abbrev pub account_of : Tables → ℕ → Option Account
 account_of T account = find (λ a. a.number == account) T.accounts
 
@@ -39,6 +40,9 @@ negative_of T account negative = find (λ n. n.account == account && n.number ==
 
 abbrev pub placement_of : Tables → ℕ → Option Placement
 placement_of T placement = find (λ p. p.number == placement) T.placements
+
+abbrev pub batch_of : Tables → ℕ → ℕ → Option Batch
+batch_of T account batch = find (λ b. b.account == account && b.number == batch) T.batches
 
 -- how many campaigns, lines or negatives an account has
 abbrev pub campaigns_of : Tables → ℕ → ℕ

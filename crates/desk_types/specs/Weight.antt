@@ -1,18 +1,30 @@
 -- What a call adds to the bytes of the journal.
-use Rattle.std.specs.Prelude.{ℕ, ◌-◌, ◌^◌, min, List, [], ◌∷◌, length, sum_by}
+use Rattle.std.specs.Prelude.{ℕ, ◌+◌, ◌-◌, ◌^◌, min, length, sum_by}
+use Rattle.desk_types.specs.declared.limits.TheConstants.{ROW_WEIGHT}
 use Rattle.desk_types.specs.declared.call.Call.{Call}
-use Rattle.desk_types.specs.declared.call.Call.TheVariants.{AddAccount, AddCampaign, AddLine, AddNegative, DropNegative, Search, Click}
+use Rattle.desk_types.specs.declared.call.Call.TheVariants.{AddAccount, SetQuality, Suspend, AddCampaign, AddLine, SetBid, Pause, AddNegative, DropNegative, Import, Search, Click}
+use Rattle.desk_types.specs.declared.call.ImportRow.{ImportRow}
 
--- the texts of a call, the key among them
-abbrev pub texts_of : Call → List (List ℕ)
-texts_of (AddAccount key) = key ∷ []
-texts_of (AddCampaign account key budget) = key ∷ []
-texts_of (AddLine account key campaign bid pattern headline link) = key ∷ pattern ∷ headline ∷ link ∷ []
-texts_of (AddNegative account key campaign pattern) = key ∷ pattern ∷ []
-texts_of (DropNegative account key negative) = key ∷ []
-texts_of (Search text places) = text ∷ []
-texts_of (Click placement) = []
+-- a row of an import: the bytes of its texts, and what each row counts beside them
+abbrev pub row_weight : ImportRow → ℕ
+row_weight row = length row.pattern + length row.headline + length row.link + ROW_WEIGHT
 
--- the bytes of its texts together; a greater sum than the greatest `u64` counts as that
+-- the bytes of the texts of a call, the key among them, and what its rows count
+abbrev pub bytes_in : Call → ℕ
+bytes_in (AddAccount key) = length key
+bytes_in (SetQuality account line quality) = 0
+bytes_in (Suspend account suspended) = 0
+bytes_in (AddCampaign account key budget) = length key
+bytes_in (AddLine account key campaign bid pattern headline link) =
+    length key + length pattern + length headline + length link
+bytes_in (SetBid account key line bid) = length key
+bytes_in (Pause account key part on) = length key
+bytes_in (AddNegative account key campaign pattern) = length key + length pattern
+bytes_in (DropNegative account key negative) = length key
+bytes_in (Import account key batch rows) = length key + sum_by row_weight rows
+bytes_in (Search text places) = length text
+bytes_in (Click placement) = 0
+
+-- these together; a greater sum than the greatest `u64` counts as that
 abbrev pub weight : Call → ℕ
-weight call = min (sum_by length (texts_of call)) (2 ^ 64 - 1)
+weight call = min (bytes_in call) (2 ^ 64 - 1)

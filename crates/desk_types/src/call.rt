@@ -1,9 +1,10 @@
 //! What a desk is asked.
 
-ghost use Rattle.std.specs.Prelude.{◌≡◌, ◌+◌, ◌-◌, ◌^◌, min, length};
-ghost use Rattle.desk_types.specs.Weight.{weight};
+ghost use Rattle.std.specs.Prelude.{◌≡◌, ◌+◌, ◌-◌, ◌^◌, min, length, sum_by};
+ghost use Rattle.desk_types.specs.Weight.{row_weight, weight};
 
-use query_words::{NoMemory, Text, Twin};
+use crate::limits::ROW_WEIGHT;
+use query_words::{List, NoMemory, Text, Twin};
 
 /// A call of the host, of an advertiser, who names an account and its key, or of the public.
 #[derive(Debug, Drop)]
@@ -12,6 +13,22 @@ pub enum Call {
     AddAccount {
         /// Its key.
         key: Text,
+    },
+    /// The host sets the quality of a line.
+    SetQuality {
+        /// The account's number.
+        account: u64,
+        /// The line's number.
+        line: u64,
+        /// The quality, 1 to 100.
+        quality: u64,
+    },
+    /// The host suspends an account, or releases it.
+    Suspend {
+        /// The account's number.
+        account: u64,
+        /// Whether it is suspended from now on.
+        suspended: bool,
     },
     /// An advertiser makes a campaign.
     AddCampaign {
@@ -39,6 +56,28 @@ pub enum Call {
         /// The text of the link.
         link: Text,
     },
+    /// An advertiser sets the bid of a line.
+    SetBid {
+        /// The account's number.
+        account: u64,
+        /// The account's key.
+        key: Text,
+        /// The line's number.
+        line: u64,
+        /// The bid, in cents per click.
+        bid: u64,
+    },
+    /// An advertiser switches a campaign or a line off, or on again.
+    Pause {
+        /// The account's number.
+        account: u64,
+        /// The account's key.
+        key: Text,
+        /// What is switched.
+        part: Part,
+        /// Whether it is on from now on.
+        on: bool,
+    },
     /// An advertiser makes a negative.
     AddNegative {
         /// The account's number.
@@ -59,6 +98,18 @@ pub enum Call {
         /// The negative's number.
         negative: u64,
     },
+    /// An advertiser makes many lines at once, or none of them. A batch that was imported before is known by its number,
+    /// and is not imported again.
+    Import {
+        /// The account's number.
+        account: u64,
+        /// The account's key.
+        key: Text,
+        /// The batch's number, which the advertiser chooses.
+        batch: u64,
+        /// The lines that are asked for, in order.
+        rows: List<ImportRow>,
+    },
     /// The public searches.
     Search {
         /// The text of the query.
@@ -73,14 +124,39 @@ pub enum Call {
     },
 }
 
+/// A part of an account that can be switched off and on.
+#[derive(Clone, Copy, Debug, PartialEq, Eq)]
+pub enum Part {
+    /// The campaign of this number.
+    OfCampaign(u64),
+    /// The line of this number.
+    OfLine(u64),
+}
+
+/// A row of an import: a line that an advertiser asks for.
+#[derive(Debug, Drop)]
+pub struct ImportRow {
+    /// The campaign's number.
+    pub campaign: u64,
+    /// The bid, in cents per click.
+    pub bid: u64,
+    /// The text of the pattern.
+    pub pattern: Text,
+    /// The headline.
+    pub headline: Text,
+    /// The text of the link.
+    pub link: Text,
+}
+
 impl Call {
-    /// What the call adds to the journal's bytes: the bytes of its texts, the key among them. A
-    /// greater sum than `u64::MAX` counts as that.
+    /// What the call adds to the journal's bytes: the bytes of its texts, the key among them, and 128 for each row of an
+    /// import. A greater sum than `u64::MAX` counts as that.
     pub fn weight(&self) -> u64
         ensures { result ≡ weight self.now }
     {
         match self {
             Call::AddAccount { key } => bytes(key),
+            Call::SetQuality { .. } | Call::Suspend { .. } => 0,
             Call::AddCampaign { key, .. } => bytes(key),
             Call::AddLine {
                 key,
@@ -89,8 +165,11 @@ impl Call {
                 link,
                 ..
             } => more(more(more(bytes(key), pattern), headline), link),
+            Call::SetBid { key, .. } => bytes(key),
+            Call::Pause { key, .. } => bytes(key),
             Call::AddNegative { key, pattern, .. } => more(bytes(key), pattern),
             Call::DropNegative { key, .. } => bytes(key),
+            Call::Import { key, rows, .. } => with_rows(bytes(key), rows.as_slice()),
             Call::Search { text, .. } => bytes(text),
             Call::Click { .. } => 0,
         }
@@ -111,10 +190,59 @@ fn more(sum: u64, text: &Text) -> u64
     sum.saturating_add(bytes(text))
 }
 
+/// A sum and what the rows of an import add to it.
+fn with_rows(sum: u64, rows: &[ImportRow]) -> u64
+    ensures { result ≡ min (sum + sum_by row_weight rows.now) (2 ^ 64 - 1) }
+{
+    let mut whole = sum;
+    for row in rows {
+        whole = with_row(whole, row);
+    }
+    whole
+}
+
+/// A sum and what a row of an import adds to it.
+fn with_row(sum: u64, row: &ImportRow) -> u64
+    ensures { result ≡ min (sum + row_weight row.now) (2 ^ 64 - 1) }
+{
+    more(more(more(sum, &row.pattern), &row.headline), &row.link).saturating_add(ROW_WEIGHT)
+}
+
+impl Twin for Part {
+    fn twin(&self) -> Result<Self, NoMemory> {
+        Ok(*self)
+    }
+}
+
+impl Twin for ImportRow {
+    fn twin(&self) -> Result<Self, NoMemory> {
+        Ok(ImportRow {
+            campaign: self.campaign,
+            bid: self.bid,
+            pattern: self.pattern.twin()?,
+            headline: self.headline.twin()?,
+            link: self.link.twin()?,
+        })
+    }
+}
+
 impl Twin for Call {
     fn twin(&self) -> Result<Self, NoMemory> {
         Ok(match self {
             Call::AddAccount { key } => Call::AddAccount { key: key.twin()? },
+            Call::SetQuality {
+                account,
+                line,
+                quality,
+            } => Call::SetQuality {
+                account: *account,
+                line: *line,
+                quality: *quality,
+            },
+            Call::Suspend { account, suspended } => Call::Suspend {
+                account: *account,
+                suspended: *suspended,
+            },
             Call::AddCampaign {
                 account,
                 key,
@@ -141,6 +269,28 @@ impl Twin for Call {
                 headline: headline.twin()?,
                 link: link.twin()?,
             },
+            Call::SetBid {
+                account,
+                key,
+                line,
+                bid,
+            } => Call::SetBid {
+                account: *account,
+                key: key.twin()?,
+                line: *line,
+                bid: *bid,
+            },
+            Call::Pause {
+                account,
+                key,
+                part,
+                on,
+            } => Call::Pause {
+                account: *account,
+                key: key.twin()?,
+                part: *part,
+                on: *on,
+            },
             Call::AddNegative {
                 account,
                 key,
@@ -160,6 +310,17 @@ impl Twin for Call {
                 account: *account,
                 key: key.twin()?,
                 negative: *negative,
+            },
+            Call::Import {
+                account,
+                key,
+                batch,
+                rows,
+            } => Call::Import {
+                account: *account,
+                key: key.twin()?,
+                batch: *batch,
+                rows: rows.twin()?,
             },
             Call::Search { text, places } => Call::Search {
                 text: text.twin()?,

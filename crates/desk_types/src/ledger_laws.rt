@@ -1,26 +1,32 @@
 //! Laws of the ledger, in the words of the subject. Each is what its function ensures.
 
-ghost use Rattle.std.specs.Prelude.{◌≡◌, ℕ, ◌≤◌, false, List, [], ◌∷◌, ◌++◌, All, Option, Result};
+ghost use Rattle.std.specs.Prelude.{◌≡◌, ◌≢◌, Bool, ℕ, ◌≤◌, false, List, [], ◌∷◌, ◌++◌, All, Option, Result};
 ghost use Rattle.std.specs.Option.{option_or};
 ghost use Rattle.desk_types.specs.declared.call.Call.{Call};
+ghost use Rattle.desk_types.specs.declared.call.ImportRow.{ImportRow};
+ghost use Rattle.desk_types.specs.declared.call.Part.{Part};
 ghost use Rattle.desk_types.specs.declared.entry.Entry.{Entry};
 ghost use Rattle.desk_types.specs.declared.entry.Fault.{Fault};
 ghost use Rattle.desk_types.specs.declared.entry.Outcome.{Outcome};
 ghost use Rattle.desk_types.specs.declared.refusal.Refusal.{Refusal};
 ghost use Rattle.desk_types.specs.declared.reply.Reply.{Reply};
 ghost use Rattle.desk_types.specs.declared.reply.Spot.{Spot};
+ghost use Rattle.desk_types.specs.declared.rows.Account.{Account};
+ghost use Rattle.desk_types.specs.declared.rows.Campaign.{Campaign};
+ghost use Rattle.desk_types.specs.declared.rows.Line.{Line};
 ghost use Rattle.desk_types.specs.declared.rows.Placement.{Placement};
 ghost use Rattle.desk_types.specs.Changes.{link_clicked};
 ghost use Rattle.desk_types.specs.Judged.{first};
+ghost use Rattle.desk_types.specs.Own.{account_named, rows_of};
 ghost use Rattle.desk_types.specs.SettingsValue.{SettingsValue};
 ghost use Rattle.desk_types.specs.State.{State, empty, catalogue};
 ghost use Rattle.desk_types.specs.Step.{step, at_moment};
-ghost use Rattle.desk_types.specs.Tables.{placement_of};
+ghost use Rattle.desk_types.specs.Tables.{account_of, campaign_of, line_of, placement_of};
 ghost use Rattle.desk_types.specs.Run.{run};
 ghost use Rattle.desk_types.specs.Serving.{Serves, ServiceView, AreServed, with_entry, with_seen};
 ghost use Rattle.desk_types.specs.Sound.{IsSound, StandInOrder, StaysWithinBudgets};
 ghost use Rattle.desk_types.specs.Journal.{IsBefore, IsLegal, IsRise, is_full};
-ghost use Rattle.desk_types.specs.LedgerLaws.{IsPageAnswered, ChangesNoRow};
+ghost use Rattle.desk_types.specs.LedgerLaws.{IsPageAnswered, ChangesNoRow, RepliesAlone};
 
 /// A state without rows is sound, and a sound state stays so, whatever entries come and as time passes.
 pub fn sound_states_stay_sound()
@@ -64,6 +70,44 @@ pub fn clicks_settle_once()
     ensures too_late { (S : State) (moment placement : ℕ) (p : Placement) →
         placement_of S.tables placement ≡ Option.Some p →
         p.deadline ≤ (at_moment S moment).moment → ChangesNoRow S moment placement (link_clicked S.tables placement) }
+{}
+
+/// A call that names an account changes no row of another account.
+pub fn edits_leave_other_accounts()
+    ensures { (S : State) (moment : ℕ) (call : Call) (account other : ℕ) →
+        account_named call ≡ Option.Some account → account ≢ other →
+        rows_of (step S moment call).state.tables other ≡ rows_of S.tables other }
+{}
+
+/// A batch that is imported again, with whatever rows, changes no row and is answered as the first time: right behind it,
+/// and from a sound state whatever entries come between.
+pub fn batches_import_once()
+    ensures repeated { (S : State) (first second account : ℕ) (key : List ℕ) (batch from count : ℕ)
+        (rows others : List ImportRow) → let reached = step S first (Call.Import account key batch rows) in
+        reached.reply ≡ Reply.Imported from count →
+        RepliesAlone reached.state second (Call.Import account key batch others) (Reply.Imported from count) }
+    ensures later { (S : State) (between : List Entry) (first second account : ℕ) (key : List ℕ) (batch from count : ℕ)
+        (rows others : List ImportRow) → IsSound S → let reached = step S first (Call.Import account key batch rows) in
+        reached.reply ≡ Reply.Imported from count →
+        let S1 = run reached.state between in
+        RepliesAlone S1 second (Call.Import account key batch others) (Reply.Imported from count) }
+{}
+
+/// An account that is suspended or released, and a campaign or a line that is switched off or on, and then set as it was,
+/// leaves all rows as they were.
+pub fn switches_can_be_taken_back()
+    ensures accounts { (S : State) (first second account : ℕ) (suspended : Bool) (a : Account) →
+        account_of S.tables account ≡ Option.Some a →
+        let S1 = (step S first (Call.Suspend account suspended)).state in
+        (step S1 second (Call.Suspend account a.suspended)).state.tables ≡ S.tables }
+    ensures campaigns { (S : State) (first second account campaign : ℕ) (key : List ℕ) (on : Bool) (c : Campaign) →
+        campaign_of S.tables account campaign ≡ Option.Some c →
+        let S1 = (step S first (Call.Pause account key (Part.OfCampaign campaign) on)).state in
+        (step S1 second (Call.Pause account key (Part.OfCampaign campaign) c.on)).state.tables ≡ S.tables }
+    ensures lines { (S : State) (first second account line : ℕ) (key : List ℕ) (on : Bool) (l : Line) →
+        line_of S.tables account line ≡ Option.Some l →
+        let S1 = (step S first (Call.Pause account key (Part.OfLine line) on)).state in
+        (step S1 second (Call.Pause account key (Part.OfLine line) l.on)).state.tables ≡ S.tables }
 {}
 
 /// A refused call changes the moment alone.

@@ -19,7 +19,7 @@ mod service;
 mod settings;
 mod tables;
 
-pub use call::Call;
+pub use call::{Call, ImportRow, Part};
 pub use day::day_of;
 pub use entry::{Entry, Fault, Outcome};
 pub use fields::{is_headline, is_key};

@@ -67,6 +67,15 @@ pub const LINES_MAX: u64 = 1_000;
 /// The most negatives of an account, dropped ones among them.
 pub const NEGATIVES_MAX: u64 = 500;
 
+/// The greatest number of a batch; the least is one.
+pub const BATCH_MAX: u64 = 1_000_000_000_000;
+
+/// The most rows of an import; the fewest are one.
+pub const ROWS_MAX: u64 = 1_000;
+
+/// What a row of an import adds to the bytes of the journal beside its texts.
+pub const ROW_WEIGHT: u64 = 128;
+
 /// A law: the limits are these numbers.
 pub fn limits_are_these()
     ensures qualities { QUALITY_NEW ≡ 10 }
@@ -77,6 +86,7 @@ pub fn limits_are_these()
     ensures days { (DAY_SECONDS ≡ 86400) × (day_of MOMENT_MAX ≡ 2932896) }
     ensures texts { (KEY_BYTES_MIN ≡ 8) × (KEY_BYTES_MAX ≡ 64) × (HEADLINE_BYTES_MAX ≡ 90) × (LINK_BYTES_MAX ≡ 512) }
     ensures rows { (ACCOUNTS_MAX ≡ 1000) × (CAMPAIGNS_MAX ≡ 64) × (LINES_MAX ≡ 1000) × (NEGATIVES_MAX ≡ 500) }
+    ensures imports { (BATCH_MAX ≡ 1000000000000) × (ROWS_MAX ≡ 1000) × (ROW_WEIGHT ≡ 128) }
     ensures placements { (PLACEMENTS_MAX ≡ 2000000) × (PLACEMENTS_USUAL ≡ 1000000) }
     ensures journal_entries { (JOURNAL_MAX ≡ 4000000) × (JOURNAL_USUAL ≡ 1000000) }
     ensures journal_bytes { JOURNAL_BYTES_MAX ≡ 1000000000 }

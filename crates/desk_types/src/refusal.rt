@@ -15,6 +15,8 @@ pub enum Refusal {
     NoAccount,
     /// 3: the account has no such campaign.
     NoCampaign,
+    /// 4: the account has no such line.
+    NoLine,
     /// 5: the account has no such negative, or it was dropped.
     NoNegative,
     /// 6: there is no such placement.
@@ -41,6 +43,8 @@ pub enum Refusal {
     QueryTooLong(u64),
     /// 19: the query has this many words, which is too many.
     QueryTooMany(u64),
+    /// 20: this row of an import, from 1, would be refused behind those before it, with the refusal of this number.
+    BadRow(u64, u64),
 }
 
 /// A field of a call.
@@ -48,6 +52,8 @@ pub enum Refusal {
 pub enum Field {
     /// The key of a new account: 8 to 64 visible ASCII bytes.
     Key,
+    /// The quality of a line: 1 to 100.
+    Quality,
     /// The daily budget of a campaign: 1 to 1,000,000,000,000 cents.
     Budget,
     /// The bid of a line: 1 to 1,000,000 cents.
@@ -56,6 +62,10 @@ pub enum Field {
     Headline,
     /// The link of a line: 1 to 512 visible ASCII bytes that begin with `http://` or `https://`.
     Link,
+    /// The number of a batch: 1 to 1,000,000,000,000.
+    Batch,
+    /// The rows of an import: 1 to 1,000.
+    Rows,
     /// The places of a page: 1 to 8.
     Places,
 }
@@ -71,6 +81,8 @@ pub enum Detail {
     Cause(PatternCause),
     /// The number of the line or the negative that is there, or the bytes or words of the query.
     Number(u64),
+    /// The row of an import, from 1, and the number of its refusal.
+    Row(u64, u64),
 }
 
 impl Refusal {
@@ -82,6 +94,7 @@ impl Refusal {
             Refusal::BadKey => 1,
             Refusal::NoAccount => 2,
             Refusal::NoCampaign => 3,
+            Refusal::NoLine => 4,
             Refusal::NoNegative => 5,
             Refusal::NoPlacement => 6,
             Refusal::BadField(_) => 7,
@@ -95,6 +108,7 @@ impl Refusal {
             Refusal::PlacementsFull => 17,
             Refusal::QueryTooLong(_) => 18,
             Refusal::QueryTooMany(_) => 19,
+            Refusal::BadRow(_, _) => 20,
         }
     }
 
@@ -106,6 +120,7 @@ impl Refusal {
             Refusal::BadKey => "BadKey",
             Refusal::NoAccount => "NoAccount",
             Refusal::NoCampaign => "NoCampaign",
+            Refusal::NoLine => "NoLine",
             Refusal::NoNegative => "NoNegative",
             Refusal::NoPlacement => "NoPlacement",
             Refusal::BadField(_) => "BadField",
@@ -119,6 +134,7 @@ impl Refusal {
             Refusal::PlacementsFull => "PlacementsFull",
             Refusal::QueryTooLong(_) => "QueryTooLong",
             Refusal::QueryTooMany(_) => "QueryTooMany",
+            Refusal::BadRow(_, _) => "BadRow",
         }
     }
 
@@ -133,6 +149,7 @@ impl Refusal {
             | Refusal::NegativeThere(number)
             | Refusal::QueryTooLong(number)
             | Refusal::QueryTooMany(number) => Detail::Number(number),
+            Refusal::BadRow(row, cause) => Detail::Row(row, cause),
             _ => Detail::Nothing,
         }
     }
@@ -145,10 +162,13 @@ impl Field {
     {
         match self {
             Field::Key => "Key",
+            Field::Quality => "Quality",
             Field::Budget => "Budget",
             Field::Bid => "Bid",
             Field::Headline => "Headline",
             Field::Link => "Link",
+            Field::Batch => "Batch",
+            Field::Rows => "Rows",
             Field::Places => "Places",
         }
     }

@@ -11,6 +11,13 @@ pub enum Reply {
     Made(u64),
     /// It was done.
     Done,
+    /// The lines of a batch were made, by this call or an earlier one.
+    Imported {
+        /// The number of the first of them.
+        first: u64,
+        /// How many they are.
+        count: u64,
+    },
     /// The page, from its first place on.
     Page(List<Spot>),
     /// The click goes to this link.
@@ -45,6 +52,10 @@ impl Twin for Reply {
         Ok(match self {
             Reply::Made(number) => Reply::Made(*number),
             Reply::Done => Reply::Done,
+            Reply::Imported { first, count } => Reply::Imported {
+                first: *first,
+                count: *count,
+            },
             Reply::Page(spots) => Reply::Page(spots.twin()?),
             Reply::Went(link) => Reply::Went(link.twin()?),
             Reply::Refused(refusal) => Reply::Refused(*refusal),

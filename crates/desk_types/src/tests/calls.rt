@@ -1,8 +1,8 @@
 //! Calls and refusals.
 
-use crate::{Call, Detail, Field, Refusal};
+use crate::{Call, Detail, Field, ImportRow, Refusal};
 use match_types::PatternCause;
-use query_words::{Text, Twin};
+use query_words::{List, Text, Twin};
 use std::process::Abort;
 use std::test::Fail;
 
@@ -22,8 +22,28 @@ fn a_line_weighs_what_its_four_texts_do(rt: HostRuntime) -> Result<(), Fail> {
     Ok(())
 }
 
+#[test]
+fn a_row_of_an_import_weighs_128_and_its_three_texts(rt: HostRuntime) -> Result<(), Fail> {
+    let row = ImportRow {
+        campaign: 1,
+        bid: 50,
+        pattern: Text::new(rt.alloc(), "shoes")?,
+        headline: Text::new(rt.alloc(), "Shoes!")?,
+        link: Text::new(rt.alloc(), "http://s")?,
+    };
+    let call = Call::Import {
+        account: 1,
+        key: Text::new(rt.alloc(), "secret01")?,
+        batch: 5,
+        rows: List::from_vec(vec![in rt.alloc(); row]?),
+    };
+    assert_eq!(rt; call.weight(), 155);
+    assert_eq!(rt; call.twin()?.weight(), 155);
+    Ok(())
+}
+
 /// A refusal of each kind of detail, its number and its name.
-static REFUSALS: [(Refusal, u64, &str, Detail); 4] = [
+static REFUSALS: [(Refusal, u64, &str, Detail); 5] = [
     (Refusal::BadKey, 1, "BadKey", Detail::Nothing),
     (
         Refusal::BadField(Field::Bid),
@@ -43,6 +63,7 @@ static REFUSALS: [(Refusal, u64, &str, Detail); 4] = [
         "QueryTooMany",
         Detail::Number(33),
     ),
+    (Refusal::BadRow(2, 7), 20, "BadRow", Detail::Row(2, 7)),
 ];
 
 #[test]

@@ -9,8 +9,8 @@ ghost use Rattle.desk_cli.specs.Reading.{auction_in, nothing_yet};
 use crate::fault::ReadEnd;
 use crate::heading::Heading;
 use crate::reading::AuctionReading;
-use desk_io::{NextLine, NumberedLines, Source};
 use auction_types::Ad;
+use desk_io::{NextLine, NumberedLines, Source};
 use std::alloc::Global;
 
 /// An auction: its heading and its eligible ads, in the order of their lines.

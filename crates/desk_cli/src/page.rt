@@ -11,8 +11,8 @@ ghost use Rattle.desk_cli.specs.Saying.{IsWritten};
 
 use crate::auction::Auction;
 use crate::status::{ENDED, NO_MEMORY, WRITE_FAULT};
-use desk_io::{OutBuf, Piece, Sink, WriteFault};
 use auction_types::Ad;
+use desk_io::{OutBuf, Piece, Sink, WriteFault};
 use gsp_price::price;
 use rank_core::{Ranked, page_of};
 use std::alloc::Global;

@@ -26,7 +26,12 @@ impl Ledger {
     }
 
     /// Puts those of some lines that compete for the words of a query behind other ads.
-    fn push_eligible(&self, query: &Words, lines: &[Line], ads: &mut Vec<Ad>) -> Result<(), AllocError>
+    fn push_eligible(
+        &self,
+        query: &Words,
+        lines: &[Line],
+        ads: &mut Vec<Ad>,
+    ) -> Result<(), AllocError>
         requires { All (λ l. IsInRange (ad_of l)) lines.now }
         ensures { OnOk result (ads.new.items
             ≡ ads.old.items ++ map ad_of (filter (is_eligible self.now.state query.now) lines.now)) }

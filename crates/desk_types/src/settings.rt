@@ -3,8 +3,11 @@
 ghost use Rattle.std.specs.Prelude.{◌≡◌, ◌↔◌, IsSome, IfSome};
 ghost use Rattle.desk_types.specs.SettingsValue.{AreInRange, IsReserve, IsFloor, IsPlaces, IsJournal, IsJournalBytes, IsPlacements, usual};
 
+use crate::limits::{
+    JOURNAL_BYTES_MAX, JOURNAL_MAX, JOURNAL_USUAL, PLACEMENTS_MAX, PLACEMENTS_USUAL, PLACES_USUAL,
+    RESERVE_USUAL,
+};
 use auction_types::limits::{BID_MAX, BID_MIN, FLOOR_MAX, PLACES_MAX};
-use crate::limits::{JOURNAL_BYTES_MAX, JOURNAL_MAX, JOURNAL_USUAL, PLACEMENTS_MAX, PLACEMENTS_USUAL, PLACES_USUAL, RESERVE_USUAL};
 use std::marker::Model;
 
 /// The settings of a desk: reserve, floor, places of a page, and the limits of journal and placements.

@@ -10,6 +10,7 @@ mod kind;
 mod matching;
 mod pattern;
 mod reading;
+
 pub use kind::MatchType;
 pub use matching::{exact_is_phrase, matches, phrase_is_broad};
 pub use pattern::Pattern;

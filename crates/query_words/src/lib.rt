@@ -8,7 +8,8 @@
 
 mod cut;
 mod laws;
-mod list;mod text;
+mod list;
+mod text;
 mod twin;
 mod word_list;
 

@@ -23,7 +23,9 @@ use Rattle.desk_types.specs.SettingsValue.{SettingsValue}
 use Rattle.desk_types.specs.State.{State}
 use Rattle.desk_types.specs.Tables.{put, put_all}
 use Rattle.desk_core.specs.declared.plan.Changes.TheVariants.{Catalogue}
-use Rattle.desk_core.specs.declared.told.Told.TheVariants.{Said}
+use Rattle.desk_core.specs.declared.told.Told.{Told}
+use Rattle.desk_core.specs.Told.{HasNoLink, IsThere, replied}
+use Rattle.desk_types.specs.Changes.{reply}
 use Rattle.desk_core.specs.Planned.{IsPlanned, IsStop, stop_of}
 
 -- tables with these placements
@@ -87,9 +89,9 @@ abbrev pub state_beside : SettingsValue → ℕ → ℕ → Tables → List Plac
 state_beside settings moment edition B ps = record { settings = settings; moment = moment; edition = edition; tables = with B ps }
 
 -- the book's plan of an edit is the ledger's
-pub planned_by_book : (settings : SettingsValue) (moment edition : ℕ) (B : Tables) (ps : List Placement) (call : Call) (plan : BookPlan) → is_edit call ≡ true → IsPlannedInBook (state_on B moment) call plan → CanBePut B plan.changes
-    → IsPlanned (state_beside settings moment edition B ps) call (record { changes = Catalogue plan.changes; told = Said plan.reply })
-planned_by_book settings moment edition B ps call plan edit h can =
+pub planned_by_book : (settings : SettingsValue) (moment edition : ℕ) (B : Tables) (ps : List Placement) (call : Call) (plan : BookPlan) → (told : Told) → ((T : Tables) → replied T told ≡ plan.reply) → ((T : Tables) → IsThere T told) → is_edit call ≡ true → IsPlannedInBook (state_on B moment) call plan → CanBePut B plan.changes
+    → IsPlanned (state_beside settings moment edition B ps) call (record { changes = Catalogue plan.changes; told = told })
+planned_by_book settings moment edition B ps call plan told says there edit h can =
     let S = state_beside settings moment edition B ps in
     let passes : judged S call ≡ None = ap first (same_refusals B.placements S call edit) ∙ h.not_refused in
     let changed : plan.changes ≡ changes S call = h.changed ∙ sym (same_changes B.placements S call edit) in
@@ -98,8 +100,8 @@ planned_by_book settings moment edition B ps call plan edit h can =
       changed = changed;
       raised = ap (λ list. nat_lt 0 (length list)) changed ∙ sym (raised_by_change S call edit passes);
       can_be_put = can_be_put_beside B ps plan.changes can;
-      told = h.replied ∙ sym (same_reply B.placements S call edit);
-      there = tt;
+      told = says (put_all S.tables plan.changes) ∙ h.replied ∙ sym (same_reply B.placements S call edit);
+      there = there (put_all S.tables plan.changes);
     }
 
 -- what stops an edit in the book stops it in the ledger
@@ -113,3 +115,13 @@ pub edit_else : (call : Call) → ((text : _) (places : _) → call ≡ Search t
 edit_else (Search text places) search click = absurd (search text places refl)
 edit_else (Click placement) search click = absurd (click placement refl)
 edit_else _ search click = refl
+
+-- an edit goes to no link
+no_link : (S : State) (call : Call) → is_edit call ≡ true → HasNoLink (reply S call)
+unfolding reply
+no_link S (Search text places) edit = absurd cc
+no_link S (Click placement) edit = absurd cc
+no_link S _ edit = tt
+
+pub edit_has_no_link : (T : Tables) (moment : ℕ) (call : Call) (plan : BookPlan) → is_edit call ≡ true → IsPlannedInBook (state_on T moment) call plan → HasNoLink plan.reply
+edit_has_no_link T moment call plan edit h = subst HasNoLink (sym h.replied) (no_link (state_on T moment) call edit)

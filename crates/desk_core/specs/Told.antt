@@ -1,19 +1,28 @@
 -- The reply that is made of what is told.
 use Rattle.std.specs.Prelude.{ℕ, IsTrue, is_some, ⊤}
 use Rattle.desk_types.specs.declared.reply.Reply.{Reply}
-use Rattle.desk_types.specs.declared.reply.Reply.TheVariants.{Went}
+use Rattle.desk_types.specs.declared.reply.Reply.TheVariants as reply
 use Rattle.desk_types.specs.declared.tables.Tables.{Tables}
 use Rattle.desk_types.specs.Changes.{link_of}
 use Rattle.desk_types.specs.Tables.{line_of}
 use Rattle.desk_core.specs.declared.told.Told.{Told}
-use Rattle.desk_core.specs.declared.told.Told.TheVariants.{Said, Link}
+use Rattle.desk_core.specs.declared.told.Told.TheVariants.{Made, Done, Imported, Page, Link, Refused}
 
 -- the reply that is told: a link is told by its line
 abbrev pub replied : Tables → Told → Reply
-replied T (Said reply) = reply
-replied T (Link account line) = Went (link_of T account line)
+replied T (Made number) = reply.Made number
+replied T Done = reply.Done
+replied T (Imported first count) = reply.Imported first count
+replied T (Page spots) = reply.Page spots
+replied T (Link account line) = reply.Went (link_of T account line)
+replied T (Refused refusal) = reply.Refused refusal
 
 -- the line of a link that is told is there
 abbrev pub IsThere : Tables → Told → Type 0
-IsThere T (Said reply) = ⊤
 IsThere T (Link account line) = IsTrue (is_some (line_of T account line))
+IsThere T _ = ⊤
+
+-- a reply goes to no link
+abbrev pub HasNoLink : Reply → Type 0
+HasNoLink (reply.Went link) = ⊥
+HasNoLink _ = ⊤

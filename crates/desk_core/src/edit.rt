@@ -12,6 +12,7 @@ use desk_types::Call;
 
 impl Ledger {
     /// Plans an edit, as the book of accounts judges it.
+    #[tactic(auto, using(crate::proofs::Besides::edit_has_no_link))]
     pub(crate) fn plan_edit(&self, call: &Call) -> Result<Plan, Stop>
         requires edit { IsTrue (is_edit call.now) }
         ensures planned { IfOk result (IsPlanned self.now.state call.now) }
@@ -20,7 +21,7 @@ impl Ledger {
         let plan = self.book.judge(call, self.moment)?;
         Ok(Plan {
             changes: Changes::Catalogue(plan.changes),
-            told: Told::Said(plan.reply),
+            told: Told::of(plan.reply),
         })
     }
 }

@@ -37,7 +37,7 @@ impl Ledger {
         let spots = self.spots(&placements)?;
         Ok(Plan {
             changes: Changes::Placed(List::from_vec(placements)),
-            told: Told::Said(Reply::Page(List::from_vec(spots))),
+            told: Told::Page(List::from_vec(spots)),
         })
     }
 

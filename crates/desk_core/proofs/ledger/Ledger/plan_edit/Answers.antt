@@ -1,7 +1,6 @@
 use Rattle.std.proofs.Common.{subst}
 use Rattle.std.proofs.lemmas.Result.{err_from_is_err_and}
 use Rattle.desk_core.specs.declared.plan.Changes.TheVariants.{Catalogue}
-use Rattle.desk_core.specs.declared.told.Told.TheVariants.{Said}
 use Rattle.desk_core.specs.LedgerValue.{LedgerValue}
 use Rattle.desk_core.specs.Planned.{IsPlanned, IsStop, stop_of}
 use Rattle.desk_core.proofs.Besides.{planned_by_book, stopped_by_book}
@@ -19,5 +18,5 @@ pub returns-clause-planned : goal.returns-clause-planned
 returns-clause-planned c =
     let ledger = c.self.inside in
     let plan = c.in_ok-plan.plan in
-    subst (λ (V : LedgerValue). IsPlanned V.state c.args.call.now (record { changes = Catalogue plan.changes; told = Said plan.reply })) c.self.view_is
-    (planned_by_book ledger.settings ledger.moment ledger.edition ledger.book.tables ledger.placements.items c.args.call.now plan c.requires.edit c.in_ok-plan.ensures.planned c.in_ok-plan.ensures.can_be_put)
+    subst (λ (V : LedgerValue). IsPlanned V.state c.args.call.now (record { changes = Catalogue plan.changes; told = c.of.result })) c.self.view_is
+    (planned_by_book ledger.settings ledger.moment ledger.edition ledger.book.tables ledger.placements.items c.args.call.now plan c.of.result c.of.ensures.replied c.of.ensures.there c.requires.edit c.in_ok-plan.ensures.planned c.in_ok-plan.ensures.can_be_put)

@@ -34,7 +34,9 @@ pub fn read_auction<S: Source>(alloc: Global, input: &mut S) -> Result<Auction, 
     let Ok(mut lines) = NumberedLines::new(alloc) else {
         return Err(ReadEnd::NoMemory);
     };
-    let mut reading = AuctionReading::new(alloc);
+    let Ok(mut reading) = AuctionReading::new(alloc) else {
+        return Err(ReadEnd::NoMemory);
+    };
     read_lines(&mut lines, &mut reading, input)?;
     reading.end(lines.number())
 }

@@ -14,7 +14,7 @@ use crate::limits::ADS_MAX;
 use auction_types::Ad;
 use desk_io::LineFault;
 use indexmap::IndexSet;
-use std::alloc::Global;
+use std::alloc::{AllocError, Global};
 use std::marker::Model;
 
 /// The heading, the names of all ads and the ads that are eligible, as the lines so far spell them.
@@ -38,15 +38,15 @@ impl Model for AuctionReading {
 }
 
 impl AuctionReading {
-    /// Nothing is spelled yet.
-    pub fn new(alloc: Global) -> AuctionReading
-        ensures { result ≡ nothing_yet }
+    /// Nothing is spelled yet. The memory for the ads of the largest auction is taken here.
+    pub fn new(alloc: Global) -> Result<AuctionReading, AllocError>
+        ensures { IfOk result (λ reading. reading ≡ nothing_yet) }
     {
-        AuctionReading {
+        Ok(AuctionReading {
             heading: None,
-            names: IndexSet::new(alloc),
-            eligible: Vec::new(alloc),
-        }
+            names: IndexSet::with_capacity(alloc, ADS_MAX as usize)?,
+            eligible: Vec::with_capacity(alloc, ADS_MAX as usize)?,
+        })
     }
 
     /// Takes the text of the next line, whose number it is told.

@@ -2,7 +2,7 @@
 use Rattle.std.proofs.Common.{◌≡◌, ◌≢◌, ◌<◌, ℕ, List, [], ◌∷◌, length, refl, arith, false}
 use Rattle.std.specs.Prelude.{None}
 use Rattle.script_api.specs.CallForm.{account_call, campaign_call, line_call, negative_call, drop_call, click_call}
-use Rattle.script_api.specs.OtherForm.{is_one_number, are_three_numbers, is_switched, is_keyed_number, are_keyed_numbers, is_pause}
+use Rattle.script_api.specs.OtherForm.{is_one_number, is_keyed_number, are_keyed_numbers}
 
 pub account_else : (fields : List (List ℕ)) → length fields ≢ 1 → account_call fields ≡ None
 account_else [] h = refl
@@ -47,19 +47,6 @@ one_number_else [] h = refl
 one_number_else (a0 ∷ []) h = absurd (h refl)
 one_number_else (a0 ∷ a1 ∷ more) h = refl
 
-pub three_numbers_else : (fields : List (List ℕ)) → length fields ≢ 3 → are_three_numbers fields ≡ false
-three_numbers_else [] h = refl
-three_numbers_else (a0 ∷ []) h = refl
-three_numbers_else (a0 ∷ a1 ∷ []) h = refl
-three_numbers_else (a0 ∷ a1 ∷ a2 ∷ []) h = absurd (h refl)
-three_numbers_else (a0 ∷ a1 ∷ a2 ∷ a3 ∷ more) h = refl
-
-pub switched_else : (fields : List (List ℕ)) → length fields ≢ 2 → is_switched fields ≡ false
-switched_else [] h = refl
-switched_else (a0 ∷ []) h = refl
-switched_else (a0 ∷ a1 ∷ []) h = absurd (h refl)
-switched_else (a0 ∷ a1 ∷ a2 ∷ more) h = refl
-
 pub keyed_number_else : (fields : List (List ℕ)) → length fields ≢ 3 → is_keyed_number fields ≡ false
 keyed_number_else [] h = refl
 keyed_number_else (a0 ∷ []) h = refl
@@ -74,12 +61,3 @@ keyed_numbers_else (a0 ∷ a1 ∷ []) h = refl
 keyed_numbers_else (a0 ∷ a1 ∷ a2 ∷ []) h = refl
 keyed_numbers_else (a0 ∷ a1 ∷ a2 ∷ a3 ∷ []) h = absurd (h refl)
 keyed_numbers_else (a0 ∷ a1 ∷ a2 ∷ a3 ∷ a4 ∷ more) h = refl
-
-pub pause_else : (fields : List (List ℕ)) → length fields ≢ 5 → is_pause fields ≡ false
-pause_else [] h = refl
-pause_else (a0 ∷ []) h = refl
-pause_else (a0 ∷ a1 ∷ []) h = refl
-pause_else (a0 ∷ a1 ∷ a2 ∷ []) h = refl
-pause_else (a0 ∷ a1 ∷ a2 ∷ a3 ∷ []) h = refl
-pause_else (a0 ∷ a1 ∷ a2 ∷ a3 ∷ a4 ∷ []) h = absurd (h refl)
-pause_else (a0 ∷ a1 ∷ a2 ∷ a3 ∷ a4 ∷ a5 ∷ more) h = refl

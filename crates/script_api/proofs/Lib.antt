@@ -3,6 +3,7 @@ pub mod SpaceLemmas
 pub mod FieldLemmas
 pub mod BarLemmas
 pub mod FormLemmas
+pub mod EditLemmas
 pub mod LineLemmas
 pub mod Spelling
 pub mod Turning

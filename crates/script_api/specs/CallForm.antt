@@ -5,6 +5,7 @@ use Rattle.desk_types.specs.declared.call.Call.TheVariants.{AddAccount, AddCampa
 use Rattle.script_api.specs.Number.{number}
 use Rattle.script_api.specs.LineFields.{fields, unspaced, behind_first, behind_third, behind_fifth}
 use Rattle.script_api.specs.Bar.{cut_at_bar, both}
+use Rattle.script_api.specs.EditForm.{quality_call, suspend_call, bid_call, pause_call}
 use Rattle.script_api.specs.declared.command.CallWord.{CallWord}
 use Rattle.script_api.specs.declared.command.CallWord.TheVariants as word
 
@@ -76,8 +77,12 @@ click_call _ = None
 -- the call of a command, by the text behind it
 unfoldable pub call_spelled : CallWord → List ℕ → Option Call
 call_spelled word.Account rest = account_call (fields rest)
+call_spelled word.Quality rest = quality_call (fields rest)
+call_spelled word.Suspend rest = suspend_call (fields rest)
 call_spelled word.Campaign rest = campaign_call (fields rest)
 call_spelled word.Line rest = line_call (fields rest) (unspaced (behind_fifth rest))
+call_spelled word.Bid rest = bid_call (fields rest)
+call_spelled word.Pause rest = pause_call (fields rest)
 call_spelled word.Negative rest = negative_call (fields rest) (unspaced (behind_third rest))
 call_spelled word.Drop rest = drop_call (fields rest)
 call_spelled word.Search rest = search_call (fields rest) (unspaced (behind_first rest))

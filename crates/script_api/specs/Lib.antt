@@ -2,6 +2,7 @@ pub mod Number
 pub mod LineFields
 pub mod Bar
 pub mod Command
+pub mod EditForm
 pub mod CallForm
 pub mod CallParts
 pub mod OtherForm

@@ -8,7 +8,7 @@ use Rattle.desk_types.specs.declared.refusal.Refusal.{Refusal}
 use Rattle.desk_types.specs.declared.refusal.Detail.{Detail}
 use Rattle.desk_types.specs.declared.refusal.Detail.TheVariants as detail
 use Rattle.desk_types.specs.declared.reply.Reply.{Reply}
-use Rattle.desk_types.specs.declared.reply.Reply.TheVariants.{Made, Done, Page, Went, Refused}
+use Rattle.desk_types.specs.declared.reply.Reply.TheVariants.{Made, Done, Imported, Page, Went, Refused}
 use Rattle.desk_types.specs.declared.reply.Spot.{Spot}
 use Rattle.desk_types.specs.Refusal.{name_of, detail_of, field_name}
 
@@ -20,12 +20,17 @@ cause_name Unclosed = codes "Unclosed"
 cause_name NoWords = codes "NoWords"
 cause_name TooMany = codes "TooMany"
 
+-- a row of an import and the number of its refusal, each behind a space
+abbrev pub row_text : ℕ → ℕ → List ℕ
+row_text row cause = codes " " ++ (decimal row ++ (codes " " ++ decimal cause))
+
 -- a space and the detail of a refusal, where there is one
 abbrev pub detail_text : Detail → List ℕ
 detail_text detail.Nothing = []
 detail_text (detail.Field field) = codes " " ++ field_name field
 detail_text (detail.Cause cause) = codes " " ++ cause_name cause
 detail_text (detail.Number number) = codes " " ++ decimal number
+detail_text (detail.Row row cause) = row_text row cause
 
 -- `refused NAME` and the detail
 abbrev pub refusal_text : Refusal → List ℕ
@@ -45,10 +50,15 @@ spot_text spot =
 unfoldable pub page_text : List Spot → List ℕ
 page_text spots = codes "page " ++ (decimal (length spots) ++ flat_map spot_text spots)
 
+-- `imported FIRST COUNT`
+abbrev pub imported_text : ℕ → ℕ → List ℕ
+imported_text first count = codes "imported " ++ (decimal first ++ (codes " " ++ decimal count))
+
 -- the text of a reply
 abbrev pub reply_text : Reply → List ℕ
 reply_text (Made number) = codes "made " ++ decimal number
 reply_text Done = codes "done"
+reply_text (Imported first count) = imported_text first count
 reply_text (Page spots) = page_text spots
 reply_text (Went link) = codes "went " ++ link
 reply_text (Refused refusal) = refusal_text refusal

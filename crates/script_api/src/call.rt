@@ -1,123 +1,18 @@
 //! The calls that lines spell.
 
-ghost use Rattle.std.specs.Prelude.{◌≡◌, IfOk};
+ghost use Rattle.std.specs.Prelude.{◌≡◌};
 ghost use Rattle.script_api.specs.LineFields.{fields, unspaced, behind_first, behind_third, behind_fifth};
 ghost use Rattle.script_api.specs.CallForm.{account_call, campaign_call, line_call, negative_call, drop_call, search_call, click_call, call_spelled, places_spelled};
-ghost use Rattle.script_api.specs.CallParts.{call_of, Spells};
+ghost use Rattle.script_api.specs.CallParts.{Spells};
 
 use crate::bar::texts_round_bar;
 use crate::command::CallWord;
+use crate::edits::{bid_parts, pause_parts, quality_parts, suspend_parts};
 use crate::fields::{
     first_field, first_five, first_three, one_field, three_fields, without_spaces,
 };
 use crate::number::number;
-use desk_types::Call;
-use query_words::{NoMemory, Text};
-use std::alloc::Global;
-
-/// A call as a line spells it: its texts are parts of the line.
-#[derive(Clone, Copy)]
-pub enum CallParts<'a> {
-    AddAccount {
-        key: &'a str,
-    },
-    AddCampaign {
-        account: u64,
-        key: &'a str,
-        budget: u64,
-    },
-    AddLine {
-        account: u64,
-        key: &'a str,
-        campaign: u64,
-        bid: u64,
-        pattern: &'a str,
-        headline: &'a str,
-        link: &'a str,
-    },
-    AddNegative {
-        account: u64,
-        key: &'a str,
-        campaign: u64,
-        pattern: &'a str,
-    },
-    DropNegative {
-        account: u64,
-        key: &'a str,
-        negative: u64,
-    },
-    Search {
-        text: &'a str,
-        places: Option<u64>,
-    },
-    Click {
-        placement: u64,
-    },
-}
-
-impl CallParts<'_> {
-    /// The call, with texts of its own. `NoMemory` is want of memory for them.
-    pub fn call(&self, alloc: Global) -> Result<Call, NoMemory>
-        ensures { IfOk result (λ call. call ≡ call_of self.now) }
-    {
-        Ok(match *self {
-            CallParts::AddAccount { key } => Call::AddAccount {
-                key: Text::new(alloc, key)?,
-            },
-            CallParts::AddCampaign {
-                account,
-                key,
-                budget,
-            } => Call::AddCampaign {
-                account,
-                key: Text::new(alloc, key)?,
-                budget,
-            },
-            CallParts::AddLine {
-                account,
-                key,
-                campaign,
-                bid,
-                pattern,
-                headline,
-                link,
-            } => Call::AddLine {
-                account,
-                key: Text::new(alloc, key)?,
-                campaign,
-                bid,
-                pattern: Text::new(alloc, pattern)?,
-                headline: Text::new(alloc, headline)?,
-                link: Text::new(alloc, link)?,
-            },
-            CallParts::AddNegative {
-                account,
-                key,
-                campaign,
-                pattern,
-            } => Call::AddNegative {
-                account,
-                key: Text::new(alloc, key)?,
-                campaign,
-                pattern: Text::new(alloc, pattern)?,
-            },
-            CallParts::DropNegative {
-                account,
-                key,
-                negative,
-            } => Call::DropNegative {
-                account,
-                key: Text::new(alloc, key)?,
-                negative,
-            },
-            CallParts::Search { text, places } => Call::Search {
-                text: Text::new(alloc, text)?,
-                places,
-            },
-            CallParts::Click { placement } => Call::Click { placement },
-        })
-    }
-}
+use crate::parts::CallParts;
 
 /// The call of a command by the text behind it, or `None` where the text is in another form.
 #[tactic(auto, unfolding(crate::specs::CallForm::call_spelled))]
@@ -126,8 +21,12 @@ pub fn read_call(word: CallWord, text: &str) -> Option<CallParts<'_>>
 {
     match word {
         CallWord::Account => account_parts(text),
+        CallWord::Quality => quality_parts(text),
+        CallWord::Suspend => suspend_parts(text),
         CallWord::Campaign => campaign_parts(text),
         CallWord::Line => line_parts(text),
+        CallWord::Bid => bid_parts(text),
+        CallWord::Pause => pause_parts(text),
         CallWord::Negative => negative_parts(text),
         CallWord::Drop => drop_parts(text),
         CallWord::Search => search_parts(text),

@@ -7,8 +7,12 @@ ghost use Rattle.script_api.specs.Command.{call_named, other_named};
 #[derive(Clone, Copy, Debug, PartialEq, Eq)]
 pub enum CallWord {
     Account,
+    Quality,
+    Suspend,
     Campaign,
     Line,
+    Bid,
+    Pause,
     Negative,
     Drop,
     Search,
@@ -18,13 +22,9 @@ pub enum CallWord {
 /// A command of which no call can be made yet.
 #[derive(Clone, Copy, Debug, PartialEq, Eq)]
 pub enum OtherWord {
-    Quality,
-    Suspend,
     Credit,
     Host,
     Budget,
-    Bid,
-    Pause,
     Report,
     Shown,
 }
@@ -36,8 +36,12 @@ pub fn call_word(word: &str) -> Option<CallWord>
 {
     match word {
         "account" => Some(CallWord::Account),
+        "quality" => Some(CallWord::Quality),
+        "suspend" => Some(CallWord::Suspend),
         "campaign" => Some(CallWord::Campaign),
         "line" => Some(CallWord::Line),
+        "bid" => Some(CallWord::Bid),
+        "pause" => Some(CallWord::Pause),
         "negative" => Some(CallWord::Negative),
         "drop" => Some(CallWord::Drop),
         "search" => Some(CallWord::Search),
@@ -52,13 +56,9 @@ pub fn other_word(word: &str) -> Option<OtherWord>
     ensures { result ≡ other_named word.now }
 {
     match word {
-        "quality" => Some(OtherWord::Quality),
-        "suspend" => Some(OtherWord::Suspend),
         "credit" => Some(OtherWord::Credit),
         "host" => Some(OtherWord::Host),
         "budget" => Some(OtherWord::Budget),
-        "bid" => Some(OtherWord::Bid),
-        "pause" => Some(OtherWord::Pause),
         "report" => Some(OtherWord::Report),
         "shown" => Some(OtherWord::Shown),
         _ => None,

@@ -8,11 +8,13 @@
 mod bar;
 mod call;
 mod command;
+mod edits;
 mod ending;
 pub mod fields;
 mod line;
 pub mod number;
 mod other;
+mod parts;
 mod reply_line;
 mod run;
 mod serving;

@@ -2,10 +2,10 @@
 
 ghost use Rattle.std.specs.Prelude.{◌≡◌};
 ghost use Rattle.script_api.specs.LineFields.{fields};
-ghost use Rattle.script_api.specs.OtherForm.{is_in_form as in_form, is_number as number_spelled, is_switch as switch_spelled, is_part as part_spelled, is_one_number as one_number_spelled, are_three_numbers as three_numbers_spelled, is_switched as switched_spelled, is_keyed_number as keyed_number_spelled, are_keyed_numbers as keyed_numbers_spelled, is_pause as pause_spelled};
+ghost use Rattle.script_api.specs.OtherForm.{is_in_form as in_form, is_number as number_spelled, is_one_number as one_number_spelled, is_keyed_number as keyed_number_spelled, are_keyed_numbers as keyed_numbers_spelled};
 
 use crate::command::OtherWord;
-use crate::fields::{five_fields, four_fields, one_field, three_fields, two_fields};
+use crate::fields::{four_fields, one_field, three_fields};
 use crate::number::number;
 
 /// Whether the text behind a command is in the command's form.
@@ -13,13 +13,9 @@ pub fn is_in_form(word: OtherWord, text: &str) -> bool
     ensures { result ≡ in_form word (fields text.now) }
 {
     match word {
-        OtherWord::Quality => are_three_numbers(text),
-        OtherWord::Suspend => is_switched(text),
         OtherWord::Credit => is_one_number(text),
         OtherWord::Host => is_one_number(text),
         OtherWord::Budget => are_keyed_numbers(text),
-        OtherWord::Bid => are_keyed_numbers(text),
-        OtherWord::Pause => is_pause(text),
         OtherWord::Report => is_keyed_number(text),
         OtherWord::Shown => are_keyed_numbers(text),
     }
@@ -32,20 +28,6 @@ fn is_number(field: &str) -> bool
     number(field).is_some()
 }
 
-/// Whether a field is `on` or `off`.
-fn is_switch(field: &str) -> bool
-    ensures { result ≡ switch_spelled field.now }
-{
-    field == "on" || field == "off"
-}
-
-/// Whether a field is `campaign` or `line`.
-fn is_part(field: &str) -> bool
-    ensures { result ≡ part_spelled field.now }
-{
-    field == "campaign" || field == "line"
-}
-
 /// Whether a text is a number.
 #[tactic(auto, using(crate::proofs::FormLemmas::one_number_else))]
 fn is_one_number(text: &str) -> bool
@@ -53,28 +35,6 @@ fn is_one_number(text: &str) -> bool
 {
     match one_field(text) {
         Some(number) => is_number(number),
-        None => false,
-    }
-}
-
-/// Whether a text is three numbers.
-#[tactic(auto, using(crate::proofs::FormLemmas::three_numbers_else))]
-fn are_three_numbers(text: &str) -> bool
-    ensures { result ≡ three_numbers_spelled (fields text.now) }
-{
-    match three_fields(text) {
-        Some((first, second, third)) => is_number(first) && (is_number(second) && is_number(third)),
-        None => false,
-    }
-}
-
-/// Whether a text is a number and a switch.
-#[tactic(auto, using(crate::proofs::FormLemmas::switched_else))]
-fn is_switched(text: &str) -> bool
-    ensures { result ≡ switched_spelled (fields text.now) }
-{
-    match two_fields(text) {
-        Some((account, switch)) => is_number(account) && is_switch(switch),
         None => false,
     }
 }
@@ -98,18 +58,6 @@ fn are_keyed_numbers(text: &str) -> bool
     match four_fields(text) {
         Some((account, _, first, second)) => is_number(account)
             && (is_number(first) && is_number(second)),
-        None => false,
-    }
-}
-
-/// Whether a text is a number, a key, a part of an account with its number, and a switch.
-#[tactic(auto, using(crate::proofs::FormLemmas::pause_else))]
-fn is_pause(text: &str) -> bool
-    ensures { result ≡ pause_spelled (fields text.now) }
-{
-    match five_fields(text) {
-        Some((account, _, part, number, switch)) => is_number(account)
-            && (is_part(part) && (is_number(number) && is_switch(switch))),
         None => false,
     }
 }

@@ -2,7 +2,7 @@
 
 ghost use Rattle.std.specs.Prelude.{◌≡◌, ◌++◌, codes, flat_map};
 ghost use Rattle.desk_io.specs.Putting.{Puts};
-ghost use Rattle.script_api.specs.ReplyLine.{answer_line, answer_text, cause_name as name_of_cause, detail_text, fault_text as text_of_fault, page_text, refusal_text, reply_text, spot_text};
+ghost use Rattle.script_api.specs.ReplyLine.{answer_line, answer_text, cause_name as name_of_cause, detail_text, fault_text as text_of_fault, imported_text, page_text, refusal_text, reply_text, row_text, spot_text};
 
 use desk_io::{OutBuf, Piece, Sink, WriteFault};
 use desk_types::{Detail, Fault, Refusal, Reply, Spot};
@@ -55,6 +55,7 @@ fn put_reply<T: Sink>(out: &mut OutBuf, output: &mut T, reply: &Reply) -> Result
     match reply {
         Reply::Made(number) => out.put_all(output, &[Piece::Text("made "), Piece::Number(*number)]),
         Reply::Done => out.put_str(output, "done"),
+        Reply::Imported { first, count } => put_imported(out, output, *first, *count),
         Reply::Page(spots) => put_page(out, output, spots.as_slice()),
         Reply::Went(link) => out.put_all(
             output,
@@ -62,6 +63,25 @@ fn put_reply<T: Sink>(out: &mut OutBuf, output: &mut T, reply: &Reply) -> Result
         ),
         Reply::Refused(refusal) => put_refusal(out, output, refusal),
     }
+}
+
+/// Puts the text of an import by its first line and how many it made.
+fn put_imported<T: Sink>(
+    out: &mut OutBuf,
+    output: &mut T,
+    first: u64,
+    count: u64,
+) -> Result<(), WriteFault>
+    ensures puts { Puts (T.sink output.old) (T.sink output.new) out.old out.new (imported_text first count) result }
+    ensures source_side { T.source_side output.new ≡ T.source_side output.old }
+{
+    let pieces = [
+        Piece::Text("imported "),
+        Piece::Number(first),
+        Piece::Text(" "),
+        Piece::Number(count),
+    ];
+    out.put_all(output, &pieces)
 }
 
 /// Puts the text of a page.
@@ -135,8 +155,28 @@ fn put_detail<T: Sink>(out: &mut OutBuf, output: &mut T, detail: Detail) -> Resu
         Detail::Field(field) => Piece::Text(field.name()),
         Detail::Cause(cause) => Piece::Text(cause_name(cause)),
         Detail::Number(number) => Piece::Number(number),
+        Detail::Row(row, cause) => return put_row(out, output, row, cause),
     };
     out.put_all(output, &[Piece::Text(" "), piece])
+}
+
+/// Puts a row of an import and the number of its refusal, each behind a space.
+fn put_row<T: Sink>(
+    out: &mut OutBuf,
+    output: &mut T,
+    row: u64,
+    cause: u64,
+) -> Result<(), WriteFault>
+    ensures puts { Puts (T.sink output.old) (T.sink output.new) out.old out.new (row_text row cause) result }
+    ensures source_side { T.source_side output.new ≡ T.source_side output.old }
+{
+    let pieces = [
+        Piece::Text(" "),
+        Piece::Number(row),
+        Piece::Text(" "),
+        Piece::Number(cause),
+    ];
+    out.put_all(output, &pieces)
 }
 
 /// The name of the cause for which a text is no pattern.

@@ -34,7 +34,7 @@ fn check_behind(
 }
 
 /// What follows the opening lines, the status and the answers.
-const SCRIPTS: [(&str, u8, &str); 6] = [
+const SCRIPTS: [(&str, u8, &str); 7] = [
     (
         NEGATIVES,
         0,
@@ -44,6 +44,11 @@ const SCRIPTS: [(&str, u8, &str); 6] = [
         REFUSED,
         8,
         "refused NoAccount;refused BadKey;refused BadField Budget;refused LineThere 1;bad line 8;",
+    ),
+    (
+        EDITS,
+        0,
+        "refused BadField Quality;done;done;page 0;done;done;page 0;refused NoLine;refused BadField Bid;",
     ),
     ("# passed over;;1899 search 1", 0, "page 0;"),
     ("100 host 0;100 click 1;", 8, "not built 4;"),
@@ -63,6 +68,10 @@ const NEGATIVES: &str =
 const REFUSED: &str =
     "100 campaign 7 secret01 0;100 campaign 1 wrongkey 0;100 campaign 1 secret01 0;\
     100 line 1 secret01 1 50 http://s.example/ shoes | Shoes;100 nothing;";
+
+const EDITS: &str = "100 quality 1 1 101;100 quality 1 1 20;100 suspend 1 on;100 search - shoes;\
+    100 suspend 1 off;100 pause 1 secret01 line 1 off;100 search - shoes;\
+    100 pause 1 secret01 line 2 on;100 bid 1 secret01 1 0;";
 
 #[test]
 fn a_script_is_answered_by_one_desk(rt: HostRuntime) -> Result<(), Fail> {

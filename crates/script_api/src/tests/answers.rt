@@ -52,6 +52,8 @@ fn a_reply_has_its_line(rt: HostRuntime) -> Result<(), Fail> {
     let link = LinkText::read("http://s.example/").expect(&rt, "it is a link");
     check_line(&rt, Ok(Reply::Made(12)), "made 12\n")?;
     check_line(&rt, Ok(Reply::Done), "done\n")?;
+    let imported = Reply::Imported { first: 3, count: 2 };
+    check_line(&rt, Ok(imported), "imported 3 2\n")?;
     check_line(&rt, Ok(Reply::Went(link)), "went http://s.example/\n")
 }
 
@@ -91,8 +93,15 @@ fn a_fault_has_its_line(rt: HostRuntime) -> Result<(), Fail> {
 
 const UNCLOSED: Refusal = Refusal::BadPattern(PatternCause::Unclosed);
 
-const REFUSALS: [(Refusal, &str); 5] = [
+const QUALITY: Refusal = Refusal::BadField(Field::Quality);
+
+const REFUSALS: [(Refusal, &str); 10] = [
     (Refusal::BadKey, "refused BadKey\n"),
+    (Refusal::NoLine, "refused NoLine\n"),
+    (Refusal::BadRow(2, 9), "refused BadRow 2 9\n"),
+    (QUALITY, "refused BadField Quality\n"),
+    (Refusal::BadField(Field::Batch), "refused BadField Batch\n"),
+    (Refusal::BadField(Field::Rows), "refused BadField Rows\n"),
     (Refusal::BadField(Field::Bid), "refused BadField Bid\n"),
     (UNCLOSED, "refused BadPattern Unclosed\n"),
     (Refusal::LineThere(7), "refused LineThere 7\n"),

@@ -25,6 +25,12 @@ fn spelling(alloc: Global, line: &[u8]) -> Result<String, NoMemory> {
 fn write_call(out: &mut String, call: &Call) -> Result<(), NoMemory> {
     match call {
         Call::AddAccount { key } => write!(out, "account {}", key.as_str()),
+        Call::SetQuality {
+            account,
+            line,
+            quality,
+        } => write!(out, "quality {account} {line} {quality}"),
+        Call::Suspend { account, suspended } => write!(out, "suspend {account} {suspended}"),
         Call::AddCampaign {
             account,
             key,
@@ -43,6 +49,19 @@ fn write_call(out: &mut String, call: &Call) -> Result<(), NoMemory> {
             write!(out, " <{}> <{}>", pattern.as_str(), headline.as_str())?;
             write!(out, " {}", link.as_str())
         }
+        Call::SetBid {
+            account,
+            key,
+            line,
+            bid,
+        } => write!(out, "bid {account} {} {line} {bid}", key.as_str()),
+        Call::Pause {
+            account,
+            key,
+            part,
+            on,
+        } => write!(out, "pause {account} {} {part:?} {on}", key.as_str()),
+        Call::Import { .. } => out.push_str("import"),
         Call::AddNegative {
             account,
             key,
@@ -84,7 +103,7 @@ fn check_bad(rt: &(impl Abort + AllocGlobal), lines: &[&[u8]]) -> Result<(), Fai
 }
 
 /// A line, and what it spells.
-const LINES: [(&str, &str); 19] = [
+const LINES: [(&str, &str); 25] = [
     ("0 account k", "0 account k"),
     ("100 campaign 1 k 1000", "100 campaign 1 k 1000"),
     (
@@ -103,8 +122,17 @@ const LINES: [(&str, &str); 19] = [
     ("6 search 4", "6 search 4 <>"),
     ("6 search -  ", "6 search - <>"),
     ("7   click    12   ", "7 click 12"),
-    ("1 suspend 1 on", "not built"),
-    ("1 pause 1 k campaign 1 off", "not built"),
+    ("8 quality 1 2 30", "8 quality 1 2 30"),
+    ("8 suspend 1 on", "8 suspend 1 true"),
+    ("8 suspend 1 off", "8 suspend 1 false"),
+    ("8 bid 1 k 2 50", "8 bid 1 k 2 50"),
+    (
+        "8 pause 1 k campaign 2 off",
+        "8 pause 1 k OfCampaign(2) false",
+    ),
+    ("8 pause 1 k line 2 on", "8 pause 1 k OfLine(2) true"),
+    ("1 credit 1", "not built"),
+    ("1 budget 1 k 1 5", "not built"),
     ("1 report 1 k 0", "not built"),
     ("1 shown 1 k 0 0", "not built"),
 ];
@@ -115,7 +143,7 @@ fn a_line_in_its_form_spells_its_call(rt: HostRuntime) -> Result<(), Fail> {
 }
 
 /// Lines in no form.
-const BAD_LINES: [&[u8]; 20] = [
+const BAD_LINES: [&[u8]; 30] = [
     b" 7 click 12",
     b"   ",
     b" # a",
@@ -134,7 +162,17 @@ const BAD_LINES: [&[u8]; 20] = [
     b"1 negative 1 k 1   ",
     b"1 drop 1 k 1 1",
     b"1 click",
+    b"1 quality 1 1 020",
+    b"1 quality 1 1 20 1",
+    b"1 suspend 1 yes",
     b"1 suspend 1 On",
+    b"1 suspend 1 on off",
+    b"1 bid 1 k 01 5",
+    b"1 bid 1 k 5",
+    b"1 pause 1 k campaign 1",
+    b"1 pause 1 k line 1 on 1",
+    b"1 pause 1 k line on 1",
+    b"1 pause 1 k account 1 on",
     b"1 import 1 k 1",
 ];
 

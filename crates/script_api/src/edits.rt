@@ -1,0 +1,87 @@
+//! The calls that lines spell which change a row that is there: qualities, suspensions, bids and pauses.
+
+ghost use Rattle.std.specs.Prelude.{◌≡◌};
+ghost use Rattle.script_api.specs.LineFields.{fields};
+ghost use Rattle.script_api.specs.EditForm.{quality_call, suspend_call, bid_call, pause_call, switch_spelled, part_spelled};
+ghost use Rattle.script_api.specs.CallParts.{Spells};
+
+use crate::fields::{five_fields, four_fields, three_fields, two_fields};
+use crate::number::number;
+use crate::parts::CallParts;
+use desk_types::Part;
+
+/// `A L NUMBER`
+#[tactic(auto, using(crate::proofs::EditLemmas::quality_else))]
+pub fn quality_parts(text: &str) -> Option<CallParts<'_>>
+    ensures { Spells (quality_call (fields text.now)) result }
+{
+    let (account, line, quality) = three_fields(text)?;
+    Some(CallParts::SetQuality {
+        account: number(account)?,
+        line: number(line)?,
+        quality: number(quality)?,
+    })
+}
+
+/// `A on` or `A off`
+#[tactic(auto, using(crate::proofs::EditLemmas::suspend_else))]
+pub fn suspend_parts(text: &str) -> Option<CallParts<'_>>
+    ensures { Spells (suspend_call (fields text.now)) result }
+{
+    let (account, switch) = two_fields(text)?;
+    Some(CallParts::Suspend {
+        account: number(account)?,
+        suspended: switch_of(switch)?,
+    })
+}
+
+/// `A KEY L NUMBER`
+#[tactic(auto, using(crate::proofs::EditLemmas::bid_else))]
+pub fn bid_parts(text: &str) -> Option<CallParts<'_>>
+    ensures { Spells (bid_call (fields text.now)) result }
+{
+    let (account, key, line, bid) = four_fields(text)?;
+    Some(CallParts::SetBid {
+        account: number(account)?,
+        key,
+        line: number(line)?,
+        bid: number(bid)?,
+    })
+}
+
+/// `A KEY campaign C on`, or `line L`, or `off`
+#[tactic(auto, using(crate::proofs::EditLemmas::pause_else))]
+pub fn pause_parts(text: &str) -> Option<CallParts<'_>>
+    ensures { Spells (pause_call (fields text.now)) result }
+{
+    let (account, key, kind, numeral, switch) = five_fields(text)?;
+    Some(CallParts::Pause {
+        account: number(account)?,
+        key,
+        part: part_of(kind, numeral)?,
+        on: switch_of(switch)?,
+    })
+}
+
+/// Whether a switch is on, or `None` where the field is no switch.
+fn switch_of(field: &str) -> Option<bool>
+    ensures { result ≡ switch_spelled field.now }
+{
+    match field {
+        "on" => Some(true),
+        "off" => Some(false),
+        _ => None,
+    }
+}
+
+/// A campaign or a line by its word and its number, or `None` where the fields name neither.
+fn part_of(kind: &str, numeral: &str) -> Option<Part>
+    ensures { result ≡ part_spelled kind.now numeral.now }
+{
+    let number = number(numeral)?;
+    match kind {
+        "campaign" => Some(Part::OfCampaign(number)),
+        "line" => Some(Part::OfLine(number)),
+        _ => None,
+    }
+}

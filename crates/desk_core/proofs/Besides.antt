@@ -1,7 +1,6 @@
 -- Changes of the catalogue, and the rows of a book, beside placements.
-use Rattle.std.proofs.Common.{◌≡◌, ℕ, true, List, [], ◌∷◌, length, None, Some, refl, sym, ap, subst, ◌∙◌}
+use Rattle.std.proofs.Common.{◌≡◌, ℕ, true, List, [], ◌∷◌, length, None, refl, sym, ap, subst, ◌∙◌}
 use Rattle.std.specs.Prelude.{nat_lt}
-use Rattle.std.specs.List.{All}
 use Rattle.std.proofs.lemmas.List.Elements.{All-weaker}
 use Rattle.accounts.specs.declared.plan.EditFault.{EditFault}
 use Rattle.accounts.specs.declared.plan.EditFault.TheVariants as fault
@@ -17,7 +16,7 @@ use Rattle.desk_types.specs.declared.rows.Placement.{Placement}
 use Rattle.desk_types.specs.declared.tables.Change.{Change}
 use Rattle.desk_types.specs.declared.tables.Change.TheVariants.{PutAccount, PutCampaign, PutBudget, PutLine, PutNegative, PutPlacement, PutBatch, PutFate}
 use Rattle.desk_types.specs.declared.tables.Tables.{Tables}
-use Rattle.desk_types.specs.Changes.{changes, raises_edition}
+use Rattle.desk_types.specs.Changes.{changes}
 use Rattle.desk_types.specs.Judged.{first, judged}
 use Rattle.desk_types.specs.SettingsValue.{SettingsValue}
 use Rattle.desk_types.specs.State.{State}

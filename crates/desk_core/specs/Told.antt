@@ -1,5 +1,5 @@
 -- The reply that is made of what is told.
-use Rattle.std.specs.Prelude.{ℕ, IsTrue, is_some, ⊤}
+use Rattle.std.specs.Prelude.{IsTrue, is_some, ⊤}
 use Rattle.desk_types.specs.declared.reply.Reply.{Reply}
 use Rattle.desk_types.specs.declared.reply.Reply.TheVariants as reply
 use Rattle.desk_types.specs.declared.tables.Tables.{Tables}

@@ -1,4 +1,4 @@
-use Rattle.std.proofs.Common.{◌≡◌, true, false, sym, ap, subst, ◌∙◌}
+use Rattle.std.proofs.Common.{◌≡◌, true, false, ap, subst, ◌∙◌}
 use Rattle.std.specs.Result.{IsOk}
 use Rattle.desk_types.specs.State.{State}
 use Rattle.desk_types.specs.Step.{next_edition}

@@ -17,6 +17,3 @@ mod shelf;
 
 pub use book::Book;
 pub use plan::{EditFault, Plan};
-
-#[cfg(test)]
-mod tests;

@@ -23,6 +23,3 @@ mod told;
 
 pub use desk::Desk;
 pub use solo::Solo;
-
-#[cfg(test)]
-mod tests;

@@ -30,6 +30,3 @@ pub use rows::{Account, Batch, BudgetSet, Campaign, Fate, Line, Negative, Placem
 pub use service::Service;
 pub use settings::Settings;
 pub use tables::{Change, Tables};
-
-#[cfg(test)]
-mod tests;

@@ -23,6 +23,3 @@ pub use ending::ScriptEnd;
 pub use line::{ScriptLine, read_line};
 pub use reply_line::put_answer_line;
 pub use run::script;
-
-#[cfg(test)]
-mod tests;

@@ -1,6 +1,6 @@
 //! Calls and refusals.
 
-use crate::{Call, Detail, Field, ImportRow, Refusal};
+use desk_types::{Call, Detail, Field, ImportRow, Refusal};
 use match_types::PatternCause;
 use query_words::{List, Text, Twin};
 use std::process::Abort;

@@ -1,10 +1,10 @@
 //! The lines of answers.
 
-use crate::put_answer_line;
 use desk_io::{MemSink, OutBuf};
 use desk_types::{Fault, Field, LinkText, Refusal, Reply, Spot};
 use match_types::PatternCause;
 use query_words::{List, NoMemory, Text};
+use script_api::put_answer_line;
 use std::alloc::Global;
 use std::process::Abort;
 use std::test::Fail;

@@ -1,6 +1,6 @@
 //! Tests of what a desk answers, call after call.
 
-use crate::Desk;
+use desk_core::Desk;
 use desk_types::{Call, Fault, Refusal, Reply, Settings, Spot};
 use query_words::Text;
 use std::alloc::{AllocError, Global};

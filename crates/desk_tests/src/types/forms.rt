@@ -1,6 +1,6 @@
 //! The forms of texts and the ranges of settings.
 
-use crate::{LinkText, Settings, is_headline, is_key};
+use desk_types::{LinkText, Settings, is_headline, is_key};
 use std::process::Abort;
 use std::test::Fail;
 

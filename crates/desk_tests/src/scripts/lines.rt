@@ -1,8 +1,8 @@
 //! What lines spell.
 
-use crate::{ScriptLine, read_line};
 use desk_types::Call;
 use query_words::NoMemory;
+use script_api::{ScriptLine, read_line};
 use std::alloc::Global;
 use std::fmt::Write;
 use std::process::Abort;

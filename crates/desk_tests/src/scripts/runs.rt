@@ -2,11 +2,11 @@
 
 ghost use Rattle.std.specs.Prelude.{◌≤◌, [], true};
 
-use crate::ScriptEnd::{self, BadLine, Ended, LongLine, NotBuilt, TooManyLines};
-use crate::script;
 use desk_io::{MemSink, MemSource};
 use desk_types::{Call, Fault, Reply, Service};
 use query_words::NoMemory;
+use script_api::ScriptEnd::{self, BadLine, Ended, LongLine, NotBuilt, TooManyLines};
+use script_api::script;
 use std::alloc::Global;
 use std::process::Abort;
 use std::test::Fail;

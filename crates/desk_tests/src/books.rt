@@ -3,7 +3,7 @@
 ghost use Rattle.std.specs.Prelude.{IfOk, IsTrue};
 ghost use Rattle.accounts.specs.Planned.{is_edit};
 
-use crate::{Book, EditFault};
+use accounts::{Book, EditFault};
 use desk_types::{Call, Field, Refusal, Reply};
 use match_types::PatternCause;
 use query_words::Text;

@@ -3,7 +3,7 @@
 use super::Asked::{Account, Campaign, Click, Drop, Line, Negative, Search};
 use super::Told::{Done, Full, Made, No, Page};
 use super::{LINK, NO_PLACE, ONE, Row, check, check_with, search_of};
-use crate::Desk;
+use desk_core::Desk;
 use desk_types::Refusal::{
     AccountsFull, CampaignsFull, LinesFull, NegativesFull, NoPlacement, PlacementsFull,
     QueryTooLong,

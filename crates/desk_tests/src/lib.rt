@@ -1,0 +1,12 @@
+//! Tests of the ledger's types, of the book of accounts, of the desk and of scripts, by their public calls.
+//! They stand here and not in their crates, since a crate with tests is proved twice.
+#![tactic(auto)]
+
+#[cfg(test)]
+mod books;
+#[cfg(test)]
+mod desks;
+#[cfg(test)]
+mod scripts;
+#[cfg(test)]
+mod types;

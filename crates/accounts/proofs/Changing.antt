@@ -1,16 +1,22 @@
 -- An edit that is not refused changes a row, and raises the edition.
-use Rattle.std.proofs.Common.{◌≡◌, ℕ, Bool, true, false, not, ◌==◌, ◌&&◌, List, [], ◌∷◌, length, find, Option, None, Some, refl, sym, ap, ◌∙◌}
+use Rattle.std.proofs.Common.{◌≡◌, ℕ, Bool, true, false, not, ◌==◌, ◌&&◌, List, [], ◌∷◌, ◌++◌, is_none, length, find, Option, None, Some, refl, sym, ap, ◌∙◌, arith}
 use Rattle.std.specs.Prelude.{nat_lt}
 use Rattle.std.specs.List.{list_any}
+use Rattle.std.proofs.lemmas.Bool.{lt-ltb}
 use Rattle.desk_types.specs.declared.call.Call.{Call}
-use Rattle.desk_types.specs.declared.call.Call.TheVariants.{AddAccount, AddCampaign, AddLine, AddNegative, DropNegative, Search, Click}
-use Rattle.desk_types.specs.declared.refusal.Refusal.TheVariants.{NoNegative}
+use Rattle.desk_types.specs.declared.call.Call.TheVariants.{AddAccount, SetQuality, Suspend, AddCampaign, AddLine, SetBid, Pause, AddNegative, DropNegative, Import, Search, Click}
+use Rattle.desk_types.specs.declared.call.ImportRow.{ImportRow}
+use Rattle.desk_types.specs.declared.call.Part.TheVariants.{OfCampaign, OfLine}
+use Rattle.desk_types.specs.declared.refusal.Refusal.{Refusal}
+use Rattle.desk_types.specs.declared.refusal.Refusal.TheVariants.{NoAccount, NoCampaign, NoLine, NoNegative}
+use Rattle.desk_types.specs.declared.rows.Batch.{Batch}
+use Rattle.desk_types.specs.declared.tables.Change.{Change}
 use Rattle.desk_types.specs.declared.rows.Negative.{Negative}
 use Rattle.desk_types.specs.declared.tables.Tables.{Tables}
-use Rattle.desk_types.specs.Changes.{changes, drop_of, raises_edition}
-use Rattle.desk_types.specs.Judged.{has_live_negative, judged, refusals}
+use Rattle.desk_types.specs.Changes.{changes, drop_of, import_of, put_found, raises_edition}
+use Rattle.desk_types.specs.Judged.{has_live_negative, judged, refusals, when}
 use Rattle.desk_types.specs.State.{State}
-use Rattle.desk_types.specs.Tables.{negative_of}
+use Rattle.desk_types.specs.Tables.{account_of, batch_of, campaign_of, line_of, negative_of}
 use Rattle.desk_types.proofs.Accepting.{none_holds, not_when}
 use Rattle.accounts.specs.Planned.{is_edit}
 use Rattle.accounts.proofs.Joined.{any-group, find-group}
@@ -28,6 +34,19 @@ dropped T account negative None is live =
     absurd cc
 dropped T account negative (Some n) is live = refl
 
+-- a row that must be there is changed
+row_changed : {A : Type 0} (changed : A → Change) (row : Option A) (refusal : Refusal) → when (is_none row) refusal ≡ None → true ≡ nat_lt 0 (length (put_found changed row))
+row_changed changed None refusal h = absurd cc
+row_changed changed (Some row) refusal h = refl
+
+one_more : (list : List Change) (change : Change) → true ≡ nat_lt 0 (length (list ++ (change ∷ [])))
+one_more [] change = refl
+one_more (first ∷ list) change = sym (lt-ltb 0 (length (first ∷ (list ++ (change ∷ [])))) (omega arith))
+
+imported : (T : Tables) (account batch : ℕ) (rows : List ImportRow) (there : Option Batch) → is_none there ≡ nat_lt 0 (length (import_of T account batch rows there))
+imported T account batch rows None = one_more _ _
+imported T account batch rows (Some there) = refl
+
 pub raised_by_change : (S : State) (call : Call) → is_edit call ≡ true → judged S call ≡ None → raises_edition S call ≡ nat_lt 0 (length (changes S call))
 unfolding refusals changes raises_edition
 raised_by_change S (AddAccount key) edit h = refl
@@ -38,5 +57,16 @@ raised_by_change S (DropNegative account key negative) edit h =
     let lives = none_holds (refusals S (DropNegative account key negative)) h in
     dropped S.tables account negative (negative_of S.tables account negative) refl
     (not_false (has_live_negative S.tables account negative) (not_when (not (has_live_negative S.tables account negative)) NoNegative lives.1.1.0))
+raised_by_change S (SetQuality account line quality) edit h =
+    row_changed _ (line_of S.tables account line) NoLine (none_holds (refusals S (SetQuality account line quality)) h).1.0
+raised_by_change S (Suspend account suspended) edit h =
+    row_changed _ (account_of S.tables account) NoAccount (none_holds (refusals S (Suspend account suspended)) h).0
+raised_by_change S (SetBid account key line bid) edit h =
+    row_changed _ (line_of S.tables account line) NoLine (none_holds (refusals S (SetBid account key line bid)) h).1.1.0
+raised_by_change S (Pause account key (OfCampaign campaign) on) edit h =
+    row_changed _ (campaign_of S.tables account campaign) NoCampaign (none_holds (refusals S (Pause account key (OfCampaign campaign) on)) h).1.1.0
+raised_by_change S (Pause account key (OfLine line) on) edit h =
+    row_changed _ (line_of S.tables account line) NoLine (none_holds (refusals S (Pause account key (OfLine line) on)) h).1.1.0
+raised_by_change S (Import account key batch rows) edit h = imported S.tables account batch rows (batch_of S.tables account batch)
 raised_by_change S (Search text places) edit h = absurd cc
 raised_by_change S (Click placement) edit h = absurd cc

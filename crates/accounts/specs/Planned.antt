@@ -3,10 +3,12 @@ use Rattle.std.specs.Prelude.{◌≡◌, ℕ, Bool, true, false, List, Option, N
 use Rattle.desk_types.specs.declared.call.Call.{Call}
 use Rattle.desk_types.specs.declared.call.Call.TheVariants.{Search, Click}
 use Rattle.desk_types.specs.declared.refusal.Refusal.{Refusal}
+use Rattle.desk_types.specs.declared.refusal.Refusal.TheVariants.{BadRow}
 use Rattle.desk_types.specs.declared.rows.Placement.{Placement}
 use Rattle.desk_types.specs.declared.tables.Tables.{Tables}
 use Rattle.desk_types.specs.Changes.{changes, reply}
 use Rattle.desk_types.specs.Judged.{first, judged, refusals}
+use Rattle.desk_types.specs.Refusal.{number_of}
 use Rattle.desk_types.specs.SettingsValue.{usual}
 use Rattle.desk_types.specs.State.{State}
 use Rattle.accounts.specs.declared.plan.EditFault.{EditFault}
@@ -27,6 +29,11 @@ IsFirst table NoMemory = ⊤
 -- the call stops by the first of its refusals that holds, or for want of memory
 abbrev pub IsStop : State → Call → EditFault → Type 0
 IsStop S call fault = IsFirst (refusals S call) fault
+
+-- why an import is not made, for why the line of its row of this number is not
+abbrev pub in_row : ℕ → EditFault → EditFault
+in_row number (Refused cause) = Refused (BadRow number (number_of cause))
+in_row number NoMemory = NoMemory
 
 -- these rows at a moment
 abbrev pub state_on : Tables → ℕ → State

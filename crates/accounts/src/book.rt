@@ -93,6 +93,12 @@ impl Book {
     {
         match call {
             Call::AddAccount { key } => self.plan_account(key),
+            Call::SetQuality {
+                account,
+                line,
+                quality,
+            } => self.plan_quality(*account, *line, *quality),
+            Call::Suspend { account, suspended } => self.plan_suspension(*account, *suspended),
             Call::AddCampaign {
                 account,
                 key,
@@ -116,6 +122,18 @@ impl Book {
                 };
                 self.plan_line(*account, key, &asked)
             }
+            Call::SetBid {
+                account,
+                key,
+                line,
+                bid,
+            } => self.plan_bid(*account, key, *line, *bid),
+            Call::Pause {
+                account,
+                key,
+                part,
+                on,
+            } => self.plan_pause(*account, key, *part, *on),
             Call::AddNegative {
                 account,
                 key,
@@ -127,6 +145,12 @@ impl Book {
                 key,
                 negative,
             } => self.plan_drop(*account, key, *negative),
+            Call::Import {
+                account,
+                key,
+                batch,
+                rows,
+            } => self.plan_import(*account, key, *batch, rows.as_slice()),
             Call::Search { .. } | Call::Click { .. } => unreachable!(),
         }
     }

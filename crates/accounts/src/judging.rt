@@ -1,6 +1,8 @@
 //! The judging of edits.
 
 mod accounts;
+mod changed;
+mod imports;
 pub(crate) mod lines;
 mod negatives;
 mod owners;

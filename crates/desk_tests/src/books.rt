@@ -4,9 +4,9 @@ ghost use Rattle.std.specs.Prelude.{IfOk, IsTrue};
 ghost use Rattle.accounts.specs.Planned.{is_edit};
 
 use accounts::{Book, EditFault};
-use desk_types::{Call, Field, Refusal, Reply};
+use desk_types::{Call, Field, ImportRow, Part, Refusal, Reply};
 use match_types::PatternCause;
-use query_words::Text;
+use query_words::{List, Text};
 use std::alloc::{AllocError, Global};
 use std::process::Abort;
 use std::rt::HostRuntime;
@@ -36,13 +36,22 @@ enum Asked {
     Link(&'static str),
     Negative(Who, u64, &'static str),
     Drop(Who, u64),
+    Quality(u64, u64, u64),
+    Suspend(u64, bool),
+    Bid(Who, u64, u64),
+    Pause(Who, Part, bool),
+    Import(Who, u64, &'static [RowAsked]),
 }
+
+/// A row of an import: the campaign, the bid and the pattern.
+type RowAsked = (u64, u64, &'static str);
 
 /// The reply to an edit.
 #[derive(Clone, Copy)]
 enum Told {
     Made(u64),
     Done,
+    Imported(u64, u64),
     No(Refusal),
 }
 
@@ -75,6 +84,30 @@ fn edit_of(alloc: Global, asked: Asked) -> Result<Call, AllocError>
             key: Text::new(alloc, key)?,
             negative,
         }),
+        Asked::Quality(account, line, quality) => Ok(Call::SetQuality {
+            account,
+            line,
+            quality,
+        }),
+        Asked::Suspend(account, suspended) => Ok(Call::Suspend { account, suspended }),
+        Asked::Bid((account, key), line, bid) => Ok(Call::SetBid {
+            account,
+            key: Text::new(alloc, key)?,
+            line,
+            bid,
+        }),
+        Asked::Pause((account, key), part, on) => Ok(Call::Pause {
+            account,
+            key: Text::new(alloc, key)?,
+            part,
+            on,
+        }),
+        Asked::Import((account, key), batch, rows) => Ok(Call::Import {
+            account,
+            key: Text::new(alloc, key)?,
+            batch,
+            rows: rows_of(alloc, rows)?,
+        }),
     }
 }
 
@@ -101,6 +134,21 @@ fn line_of(
     })
 }
 
+/// The rows of an import.
+fn rows_of(alloc: Global, rows: &[RowAsked]) -> Result<List<ImportRow>, AllocError> {
+    let mut all = Vec::new(alloc);
+    for (campaign, bid, pattern) in rows {
+        all.push(ImportRow {
+            campaign: *campaign,
+            bid: *bid,
+            pattern: Text::new(alloc, pattern)?,
+            headline: Text::new(alloc, "Boots")?,
+            link: Text::new(alloc, LINK)?,
+        })?;
+    }
+    Ok(List::from_vec(all))
+}
+
 /// Makes an edit at the moment 1.
 fn edit(alloc: Global, book: &mut Book, asked: Asked) -> Result<Reply, EditFault> {
     let call = edit_of(alloc, asked)?;
@@ -115,6 +163,9 @@ fn answers(alloc: Global, book: &mut Book, row: &(Asked, Told)) -> bool {
     match edit(alloc, book, *asked) {
         Ok(Reply::Made(number)) => matches!(told, Told::Made(wanted) if number == *wanted),
         Ok(Reply::Done) => matches!(told, Told::Done),
+        Ok(Reply::Imported { first, count }) => {
+            matches!(told, Told::Imported(one, all) if first == *one && count == *all)
+        }
         Ok(_) => false,
         Err(EditFault::Refused(refusal)) => matches!(told, Told::No(wanted) if refusal == *wanted),
         Err(EditFault::NoMemory) => false,
@@ -198,6 +249,106 @@ static EDITS: &[(Asked, Told)] = &[
 fn edits_are_answered_in_order(rt: HostRuntime) {
     let book = book_with(&rt, EDITS);
     assert_eq!(rt; book.count(), 2, "both accounts are there");
+}
+
+/// Changes to rows that are there, behind the edits above.
+static CHANGES: &[(Asked, Told)] = &[
+    (Asked::Quality(9, 9, 0), Told::No(Refusal::NoAccount)),
+    (Asked::Quality(1, 9, 0), Told::No(Refusal::NoLine)),
+    (
+        Asked::Quality(1, 1, 0),
+        Told::No(Refusal::BadField(Field::Quality)),
+    ),
+    (Asked::Quality(1, 1, 100), Told::Done),
+    (Asked::Suspend(9, true), Told::No(Refusal::NoAccount)),
+    (Asked::Suspend(2, true), Told::Done),
+    (Asked::Bid(NOBODY, 9, 0), Told::No(Refusal::NoAccount)),
+    (Asked::Bid(WRONG, 9, 0), Told::No(Refusal::BadKey)),
+    (Asked::Bid(ONE, 9, 0), Told::No(Refusal::NoLine)),
+    (
+        Asked::Bid(ONE, 1, 0),
+        Told::No(Refusal::BadField(Field::Bid)),
+    ),
+    (Asked::Bid(ONE, 3, 80), Told::Done),
+    (
+        Asked::Pause(NOBODY, Part::OfLine(9), false),
+        Told::No(Refusal::NoAccount),
+    ),
+    (
+        Asked::Pause(WRONG, Part::OfLine(9), false),
+        Told::No(Refusal::BadKey),
+    ),
+    (
+        Asked::Pause(ONE, Part::OfLine(9), false),
+        Told::No(Refusal::NoLine),
+    ),
+    (
+        Asked::Pause(ONE, Part::OfCampaign(9), false),
+        Told::No(Refusal::NoCampaign),
+    ),
+    (Asked::Pause(ONE, Part::OfCampaign(2), false), Told::Done),
+    (Asked::Pause(ONE, Part::OfLine(1), false), Told::Done),
+];
+
+#[test]
+fn rows_that_are_there_are_changed(rt: HostRuntime) {
+    let mut book = book_with(&rt, EDITS);
+    for (number, row) in CHANGES.iter().enumerate() {
+        assert!(rt; answers(rt.alloc(), &mut book, row), "row {number}");
+    }
+    assert!(rt; !book.is_active_account(2), "the account is suspended");
+    assert!(rt; !book.is_active_campaign(1, 2), "the campaign is off");
+    assert_eq!(rt;
+        book.line(1, 3).map(|line| line.bid),
+        Some(80),
+        "the bid is the new one"
+    );
+    assert_eq!(rt;
+        book.line(1, 1).map(|line| (line.quality, line.on)),
+        Some((100, false)),
+        "quality and switch are the new ones"
+    );
+}
+
+/// Imports, behind the edits above: a bad row by its number and its cause, and a batch that comes again.
+static IMPORTS: &[(Asked, Told)] = &[
+    (Asked::Import(NOBODY, 0, &[]), Told::No(Refusal::NoAccount)),
+    (Asked::Import(WRONG, 0, &[]), Told::No(Refusal::BadKey)),
+    (
+        Asked::Import(ONE, 0, &[]),
+        Told::No(Refusal::BadField(Field::Batch)),
+    ),
+    (
+        Asked::Import(ONE, 5, &[]),
+        Told::No(Refusal::BadField(Field::Rows)),
+    ),
+    (
+        Asked::Import(ONE, 5, &[(1, 20, "a"), (1, 0, "b"), (1, 20, "c")]),
+        Told::No(Refusal::BadRow(2, 7)),
+    ),
+    (
+        Asked::Import(ONE, 5, &[(1, 20, "a"), (2, 20, "a"), (1, 20, "A")]),
+        Told::No(Refusal::BadRow(3, 9)),
+    ),
+    (
+        Asked::Import(ONE, 5, &[(1, 20, "a"), (1, 21, "b"), (1, 22, "c")]),
+        Told::Imported(4, 3),
+    ),
+    (Asked::Import(ONE, 5, &[(9, 0, "")]), Told::Imported(4, 3)),
+];
+
+#[test]
+fn a_batch_is_imported_whole_and_once(rt: HostRuntime) {
+    let mut book = book_with(&rt, EDITS);
+    for (number, row) in IMPORTS.iter().enumerate() {
+        assert!(rt; answers(rt.alloc(), &mut book, row), "row {number}");
+    }
+    assert_eq!(rt; book.lines(1).len(), 6, "three lines more");
+    assert_eq!(rt;
+        book.line(1, 6).map(|line| line.bid),
+        Some(22),
+        "the lines are in the order of the rows"
+    );
 }
 
 #[test]

@@ -37,6 +37,21 @@ impl Book {
         )?)
     }
 
+    /// Plans the suspension of an account, or its release.
+    #[tactic(auto, unfolding(desk_types::specs::Judged::refusals, desk_types::specs::Changes::changes, desk_types::specs::Changes::reply))]
+    pub(crate) fn plan_suspension(&self, account: u64, suspended: bool) -> Result<Plan, EditFault>
+        ensures planned { (m : ℕ) → IfOk result
+            (IsPlanned (state_on self.now.tables m) (Call.Suspend account suspended)) }
+        ensures stopped { (m : ℕ) → IfErr result
+            (IsStop (state_on self.now.tables m) (Call.Suspend account suspended)) }
+    {
+        let Some(shelf) = self.shelf(account) else {
+            return Err(EditFault::Refused(Refusal::NoAccount));
+        };
+        let row = with_suspended(&shelf.account, suspended)?;
+        Ok(Plan::one(self.alloc(), Change::PutAccount(row), Reply::Done)?)
+    }
+
     /// Plans a campaign, which is on from the start, with the budget of its first day.
     #[tactic(auto, unfolding(desk_types::specs::Judged::refusals, desk_types::specs::Changes::changes, desk_types::specs::Changes::reply))]
     pub(crate) fn plan_campaign(
@@ -78,6 +93,15 @@ impl Book {
             reply: Reply::Made(number),
         })
     }
+}
+
+/// The account, suspended or not as is said.
+fn with_suspended(account: &Account, suspended: bool) -> Result<Account, AllocError>
+    ensures { IfOk result (λ row. row ≡ record account.now { suspended = suspended }) }
+{
+    let mut row = account.twin()?;
+    row.suspended = suspended;
+    Ok(row)
 }
 
 /// The changes that put a campaign and its budget setting.

@@ -12,7 +12,6 @@ use desk_types::Call;
 
 impl Ledger {
     /// Plans an edit, as the book of accounts judges it.
-    #[tactic(auto, using(crate::proofs::Besides::edit_has_no_link))]
     pub(crate) fn plan_edit(&self, call: &Call) -> Result<Plan, Stop>
         requires edit { IsTrue (is_edit call.now) }
         ensures planned { IfOk result (IsPlanned self.now.state call.now) }

@@ -3,7 +3,7 @@ use Rattle.std.proofs.lemmas.Result.{err_from_is_err_and}
 use Rattle.desk_core.specs.declared.plan.Changes.TheVariants.{Catalogue}
 use Rattle.desk_core.specs.LedgerValue.{LedgerValue}
 use Rattle.desk_core.specs.Planned.{IsPlanned, IsStop, stop_of}
-use Rattle.desk_core.proofs.Besides.{planned_by_book, stopped_by_book}
+use Rattle.desk_core.proofs.Besides.{edit_has_no_link, planned_by_book, stopped_by_book}
 use Rattle.desk_core.proofs.ledger.Ledger.plan_edit.Goals as goal
 
 pub returns-in_err-plan-clause-stopped : goal.returns-in_err-plan-clause-stopped
@@ -20,3 +20,6 @@ returns-clause-planned c =
     let plan = c.in_ok-plan.plan in
     subst (λ (V : LedgerValue). IsPlanned V.state c.args.call.now (record { changes = Catalogue plan.changes; told = c.of.result })) c.self.view_is
     (planned_by_book ledger.settings ledger.moment ledger.edition ledger.book.tables ledger.placements.items c.args.call.now plan c.of.result c.of.ensures.replied c.of.ensures.there c.requires.edit c.in_ok-plan.ensures.planned c.in_ok-plan.ensures.can_be_put)
+
+pub of-requires : goal.of-requires
+of-requires c = edit_has_no_link _ _ c.args.call.now c.in_ok-plan.plan c.requires.edit c.in_ok-plan.ensures.planned

@@ -2,7 +2,7 @@ use Rattle.std.proofs.Common.{◌≢◌, [], rules, refl}
 use Rattle.std.proofs.lemmas.List.Elements.{All-nil}
 use Rattle.desk_types.specs.declared.entry.Entry.{Entry}
 use Rattle.desk_types.specs.Journal.{is_full}
-use Rattle.script_api.proofs.tests.runs.FullService.call.Goals as goal
+use Rattle.desk_tests.proofs.scripts.runs.FullService.call.Goals as goal
 
 pub returns-then-moment-eq0-clause-serves : goal.returns-then-moment-eq0-clause-serves
 unfolding is_full

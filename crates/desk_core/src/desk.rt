@@ -58,7 +58,6 @@ impl Desk {
     /// is judged before all else. `Fault::NoMemory` is want of memory, which never comes for a click
     /// where there is room for an entry. A fault changes nothing. The room falls by one at most, and
     /// only with an entry.
-    #[inline(never)]
     pub fn call(&mut self, caller: u64, moment: u64, call: Call) -> Result<Reply, Fault>
         ensures settings { self.new.settings ≡ self.old.settings }
         ensures answers { Answers caller self.old moment call result self.new }

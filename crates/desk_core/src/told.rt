@@ -56,7 +56,6 @@ impl Told {
 
 impl Ledger {
     /// The reply that is told. It takes no memory.
-    #[inline(never)]
     pub fn reply(&self, told: Told) -> Reply
         requires { IsThere self.now.state.tables told }
         ensures { result ≡ replied self.now.state.tables told }

@@ -6,6 +6,7 @@ use query_words::Text;
 use std::alloc::{AllocError, Global};
 use std::process::Abort;
 
+mod imports;
 mod limits;
 mod money;
 mod refusals;

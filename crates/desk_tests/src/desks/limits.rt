@@ -5,8 +5,7 @@ use super::Told::{Done, Full, Made, No, Page};
 use super::{LINK, NO_PLACE, ONE, Row, check, check_with, search_of};
 use desk_core::Desk;
 use desk_types::Refusal::{
-    AccountsFull, CampaignsFull, LinesFull, NegativesFull, NoPlacement, PlacementsFull,
-    QueryTooLong,
+    AccountsFull, CampaignsFull, NegativesFull, NoPlacement, PlacementsFull, QueryTooLong,
 };
 use desk_types::{Call, Refusal, Reply, Settings};
 use query_words::Text;
@@ -25,7 +24,6 @@ static OPENED: [Row; 2] = [
 enum Thing {
     Accounts,
     Campaigns,
-    Lines,
     Negatives,
 }
 
@@ -39,7 +37,6 @@ fn call_for(alloc: Global, thing: Thing, word: &str) -> Result<Call, AllocError>
             key,
             budget: 1000,
         }),
-        Thing::Lines => line_of(alloc, key, word),
         Thing::Negatives => Ok(Call::AddNegative {
             account: 1,
             key,
@@ -47,19 +44,6 @@ fn call_for(alloc: Global, thing: Thing, word: &str) -> Result<Call, AllocError>
             pattern: Text::new(alloc, word)?,
         }),
     }
-}
-
-/// The call that makes a line of a word.
-fn line_of(alloc: Global, key: Text, word: &str) -> Result<Call, AllocError> {
-    Ok(Call::AddLine {
-        account: 1,
-        key,
-        campaign: 1,
-        bid: 50,
-        pattern: Text::new(alloc, word)?,
-        headline: Text::new(alloc, word)?,
-        link: Text::new(alloc, LINK)?,
-    })
 }
 
 /// The answer to the call that makes a thing, whose word is this number.
@@ -97,10 +81,9 @@ fn check_filled(
 }
 
 #[test]
-fn a_desk_has_1000_accounts_and_an_account_64_campaigns_and_1000_lines(rt: HostRuntime) {
+fn a_desk_has_1000_accounts_and_an_account_64_campaigns(rt: HostRuntime) {
     check_filled(&rt, Thing::Accounts, 2, 1_000, AccountsFull);
     check_filled(&rt, Thing::Campaigns, 2, 64, CampaignsFull);
-    check_filled(&rt, Thing::Lines, 1, 1_000, LinesFull);
 }
 
 /// Where there are 500 negatives, a dropped one counts, and lives again.

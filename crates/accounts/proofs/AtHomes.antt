@@ -1,15 +1,16 @@
 -- The changes of an edit that is not refused are of accounts that are there.
-use Rattle.std.proofs.Common.{◌≡◌, ℕ, ◌+◌, Bool, true, false, ◌==◌, ◌&&◌, inl, inr, List, [], ◌∷◌, ◌++◌, find, map, Option, None, Some, is_none, is_some, Result, Ok, Err, IfOk, refl, sym, ap, subst, ◌∙◌}
+use Rattle.std.proofs.Common.{◌≡◌, ℕ, ◌+◌, Bool, true, false, ◌==◌, ◌&&◌, inl, inr, List, [], ◌∷◌, ◌++◌, find, map, Option, None, Some, is_none, is_some, Result, Ok, Err, IfOk, OnOk, refl, sym, ap, subst, ◌∙◌}
 use Rattle.std.proofs.lemmas.Bool.{cases_Bool, cond-true, cond-false, and_parts, eq-eqb, eqb-true}
 use Rattle.std.proofs.lemmas.Option.{same_Some}
 use Rattle.desk_types.specs.declared.call.Call.{Call}
-use Rattle.desk_types.specs.declared.call.Call.TheVariants.{AddAccount, SetQuality, Suspend, AddCampaign, AddLine, SetBid, Pause, AddNegative, DropNegative, Import, Search, Click}
+use Rattle.desk_types.specs.declared.call.Call.TheVariants.{AddAccount, SetQuality, Suspend, Credit, HostReport, AddCampaign, SetBudget, AddLine, SetBid, Pause, AddNegative, DropNegative, Import, Report, Shown, Search, Click}
 use Rattle.desk_types.specs.declared.call.ImportRow.{ImportRow}
 use Rattle.desk_types.specs.declared.call.Part.{Part}
 use Rattle.desk_types.specs.declared.call.Part.TheVariants.{OfCampaign, OfLine}
 use Rattle.desk_types.specs.declared.refusal.Refusal.TheVariants.{NoAccount}
 use Rattle.desk_types.specs.declared.rows.Account.{Account}
 use Rattle.desk_types.specs.declared.rows.Batch.{Batch}
+use Rattle.desk_types.specs.declared.rows.BudgetSet.{BudgetSet}
 use Rattle.desk_types.specs.declared.rows.Campaign.{Campaign}
 use Rattle.desk_types.specs.declared.rows.Line.{Line}
 use Rattle.desk_types.specs.declared.rows.Negative.{Negative}
@@ -18,14 +19,14 @@ use Rattle.desk_types.specs.declared.tables.Change.TheVariants.{PutAccount, PutC
 use Rattle.desk_types.specs.declared.tables.Tables.{Tables}
 use Rattle.desk_types.specs.Asked.{asked_by, lines_made, with_line}
 use Rattle.desk_types.specs.Changes.{changes, drop_of, import_of, live_again, negative_made, put_found, switch_of}
-use Rattle.desk_types.specs.Judged.{dropped_negative, is_dropped_like, judged, refusals, when}
+use Rattle.desk_types.specs.Judged.{dropped_negative, first, is_dropped_like, judged, refusals, when}
 use Rattle.desk_types.specs.Tables.{account_of, batch_of, campaign_of, line_of, negative_of, negatives_of, put}
 use Rattle.desk_types.proofs.Accepting.{none_holds, not_when}
 use Rattle.desk_types.proofs.EachRow.{All-from_Each, Each}
 use Rattle.accounts.specs.declared.plan.EditFault.{EditFault}
 use Rattle.accounts.specs.declared.plan.Plan.{Plan}
 use Rattle.accounts.specs.AtHome.{AreAtHome, CanBePut, HasAccount, HasOwner, IsAtHome}
-use Rattle.accounts.specs.Planned.{IsPlanned, is_edit, state_on}
+use Rattle.accounts.specs.Planned.{IsPlanned, budget_rows, reads_no_placement, state_on}
 
 some_if_not : {A : Type 0} (o : Option A) → is_none o ≡ false → is_some o ≡ true
 some_if_not None h = absurd cc
@@ -130,7 +131,7 @@ home_live T account campaign pattern new (Some d) is there owner next =
       tt,
     )
 
-pub at_home : (T : Tables) (moment : ℕ) (call : Call) → is_edit call ≡ true → judged (state_on T moment) call ≡ None → AreAtHome T (changes (state_on T moment) call)
+pub at_home : (T : Tables) (moment : ℕ) (call : Call) → reads_no_placement call ≡ true → judged (state_on T moment) call ≡ None → AreAtHome T (changes (state_on T moment) call)
 unfolding changes refusals put
 at_home T moment (AddAccount key) edit h = (inr refl, tt)
 at_home T moment (SetQuality account line quality) edit h =
@@ -152,6 +153,11 @@ at_home T moment (DropNegative account key negative) edit h =
     home_drop T account negative (negative_of T account negative) refl (known T account (none_holds (refusals (state_on T moment) (DropNegative account key negative)) h).0)
 at_home T moment (Import account key batch rows) edit h =
     home_import T account batch rows (batch_of T account batch) (known T account (none_holds (refusals (state_on T moment) (Import account key batch rows)) h).0)
+at_home T moment (Credit placement) edit h = absurd cc
+at_home T moment (HostReport day) edit h = absurd cc
+at_home T moment (SetBudget account key campaign amount) edit h = absurd cc
+at_home T moment (Report account key day) edit h = absurd cc
+at_home T moment (Shown account key day from) edit h = absurd cc
 at_home T moment (Search text places) edit h = absurd cc
 at_home T moment (Click placement) edit h = absurd cc
 
@@ -186,7 +192,7 @@ owned_import : (T : Tables) (account number : ℕ) (rows : List ImportRow) (foun
 owned_import T account number rows (Some b) there = tt
 owned_import T account number rows None there = owned_lines T T account rows _ there refl
 
-owned_call : (T : Tables) (moment : ℕ) (call : Call) → is_edit call ≡ true → judged (state_on T moment) call ≡ None → AreAtHome T (changes (state_on T moment) call) → Each (HasOwner T) (changes (state_on T moment) call)
+owned_call : (T : Tables) (moment : ℕ) (call : Call) → reads_no_placement call ≡ true → judged (state_on T moment) call ≡ None → AreAtHome T (changes (state_on T moment) call) → Each (HasOwner T) (changes (state_on T moment) call)
 unfolding changes refusals put
 owned_call T moment (AddAccount key) edit j h = (tt, tt)
 owned_call T moment (SetQuality account line quality) edit j h = owned_found T (λ l. PutLine (record l { quality = quality })) (line_of T account line) h
@@ -199,14 +205,27 @@ owned_call T moment (AddNegative account key campaign pattern) edit j h = (owner
 owned_call T moment (DropNegative account key negative) edit j h = owned_drop T (negative_of T account negative) h
 owned_call T moment (Import account key batch rows) edit j h =
     owned_import T account batch rows (batch_of T account batch) (known T account (none_holds (refusals (state_on T moment) (Import account key batch rows)) j).0)
+owned_call T moment (Credit placement) edit j h = absurd cc
+owned_call T moment (HostReport day) edit j h = absurd cc
+owned_call T moment (SetBudget account key campaign amount) edit j h = absurd cc
+owned_call T moment (Report account key day) edit j h = absurd cc
+owned_call T moment (Shown account key day from) edit j h = absurd cc
 owned_call T moment (Search text places) edit j h = absurd cc
 owned_call T moment (Click placement) edit j h = absurd cc
 
-can_be_put : (T : Tables) (moment : ℕ) (call : Call) → is_edit call ≡ true → judged (state_on T moment) call ≡ None → CanBePut T (changes (state_on T moment) call)
+can_be_put : (T : Tables) (moment : ℕ) (call : Call) → reads_no_placement call ≡ true → judged (state_on T moment) call ≡ None → CanBePut T (changes (state_on T moment) call)
 can_be_put T moment call edit judgement =
     let home = at_home T moment call edit judgement in
     record { owners = All-from_Each (HasOwner T) (changes (state_on T moment) call) (owned_call T moment call edit judgement home); at_home = home }
 
-pub put_planned : (T : Tables) (moment : ℕ) (call : Call) (planned : Result Plan EditFault) → is_edit call ≡ true → IfOk planned (IsPlanned (state_on T moment) call) → IfOk planned (λ plan. CanBePut T plan.changes)
+pub put_planned : (T : Tables) (moment : ℕ) (call : Call) (planned : Result Plan EditFault) → reads_no_placement call ≡ true → IfOk planned (IsPlanned (state_on T moment) call) → IfOk planned (λ plan. CanBePut T plan.changes)
 put_planned T moment call (Ok plan) edit h = subst (CanBePut T) (sym h.changed) (can_be_put T moment call edit h.not_refused)
 put_planned T moment call (Err fault) edit h = tt
+
+-- a budget that is set
+pub budget_can_be_put : (T : Tables) (used : ℕ) (key : List ℕ) (b : BudgetSet) (planned : Result Plan EditFault) → OnOk planned (first (budget_rows T used b.account key b.campaign b.amount) ≡ None) → IfOk planned (λ plan. plan.changes ≡ PutBudget b ∷ [])
+    → IfOk planned (λ plan. CanBePut T plan.changes)
+budget_can_be_put T used key b (Ok plan) h is =
+    let there = known T b.account (none_holds (budget_rows T used b.account key b.campaign b.amount) h).0 in
+    subst (CanBePut T) (sym is) (record { owners = All-from_Each (HasOwner T) (PutBudget b ∷ []) (there, tt); at_home = (there, tt) })
+budget_can_be_put T used key b (Err fault) h is = tt

@@ -25,12 +25,6 @@ line_found T account n s h = ap (find (λ (l : Line). l.number == n)) (sym h.lin
 pub negative_found : (T : Tables) (account n : ℕ) (s : ShelfValue) → HasShelf T account s → find (λ k. k.number == n) s.negatives ≡ negative_of T account n
 negative_found T account n s h = ap (find (λ (k : Negative). k.number == n)) (sym h.negatives) ∙ sym (find-group (λ (k : Negative). k.account == account) (λ k. k.number == n) T.negatives)
 
-pub same_line_found : (T : Tables) (account campaign : ℕ) (pattern : List ℕ) (s : ShelfValue) → HasShelf T account s
-    → find (λ l. l.campaign == campaign && is_same_pattern l.pattern pattern) s.lines ≡ find (is_line_like account campaign pattern) T.lines
-same_line_found T account campaign pattern s h =
-    ap (find (λ (l : Line). l.campaign == campaign && is_same_pattern l.pattern pattern)) (sym h.lines)
-    ∙ sym (find-group (λ (l : Line). l.account == account) (λ l. l.campaign == campaign && is_same_pattern l.pattern pattern) T.lines)
-
 pub live_found : (T : Tables) (account campaign : ℕ) (pattern : List ℕ) (s : ShelfValue) → HasShelf T account s
     → find (λ n. n.campaign == campaign && (n.live && is_same_pattern n.pattern pattern)) s.negatives ≡ find (is_live_like account campaign pattern) T.negatives
 live_found T account campaign pattern s h =

@@ -1,5 +1,5 @@
 -- The rows of an import, judged one after another on an account's own rows and the lines made before.
-use Rattle.std.proofs.Common.{◌≡◌, ℕ, suc, ◌+◌, ◌<◌, ◌==◌, List, [], ◌∷◌, ◌++◌, drop, filter, length, map, find, Option, None, Some, option_map, refl, sym, ap, subst, ◌∙◌, arith, append_assoc, length-append}
+use Rattle.std.proofs.Common.{◌≡◌, ℕ, ◌+◌, ◌==◌, List, [], ◌∷◌, ◌++◌, filter, length, map, find, Option, None, Some, option_map, refl, sym, ap, subst, ◌∙◌, arith, append_assoc, length-append}
 use Rattle.std.proofs.lemmas.List.{append-nil}
 use Rattle.desk_types.specs.declared.call.ImportRow.{ImportRow}
 use Rattle.desk_types.specs.declared.refusal.Refusal.{Refusal}
@@ -12,7 +12,7 @@ use Rattle.desk_types.specs.Judged.{bad_rows, first, line_rows, row_refusal}
 use Rattle.desk_types.specs.Keys.{line_key}
 use Rattle.desk_types.specs.Refusal.{number_of}
 use Rattle.desk_types.specs.Sound.{RunFromOne}
-use Rattle.desk_types.specs.Tables.{batch_of, put, put_row}
+use Rattle.desk_types.specs.Tables.{batch_of, put}
 use Rattle.desk_types.proofs.InOrder.{Ordered-from, in_order-put}
 use Rattle.desk_types.proofs.Numbering.{group_put_next, run_next}
 use Rattle.accounts.specs.declared.plan.EditFault.{EditFault}

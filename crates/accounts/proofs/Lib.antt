@@ -5,6 +5,7 @@ pub mod Committing
 pub mod Finds
 pub mod Imports
 pub mod Joined
+pub mod LineTables
 pub mod Negatives
 pub mod Numbered
 pub mod Places
@@ -12,4 +13,5 @@ pub mod ReadingRows
 pub mod Rooms
 pub mod Rows
 pub mod Shelves
+pub mod States
 pub mod Tables

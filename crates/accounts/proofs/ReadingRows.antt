@@ -1,12 +1,11 @@
 -- An edit reads no placement.
 use Rattle.std.proofs.Common.{◌≡◌, ℕ, ◌+◌, Bool, true, not, List, [], ◌∷◌, ◌++◌, length, map, Option, None, Some, refl, ap}
 use Rattle.desk_types.specs.declared.call.Call.{Call}
-use Rattle.desk_types.specs.declared.call.Call.TheVariants.{AddAccount, SetQuality, Suspend, AddCampaign, AddLine, SetBid, Pause, AddNegative, DropNegative, Import, Search, Click}
+use Rattle.desk_types.specs.declared.call.Call.TheVariants.{AddAccount, SetQuality, Suspend, Credit, HostReport, AddCampaign, SetBudget, AddLine, SetBid, Pause, AddNegative, DropNegative, Import, Report, Shown, Search, Click}
 use Rattle.desk_types.specs.declared.call.ImportRow.{ImportRow}
 use Rattle.desk_types.specs.declared.call.Part.{Part}
 use Rattle.desk_types.specs.declared.call.Part.TheVariants.{OfCampaign, OfLine}
 use Rattle.desk_types.specs.declared.rows.Batch.{Batch}
-use Rattle.desk_types.specs.declared.rows.Line.{Line}
 use Rattle.desk_types.specs.declared.rows.Placement.{Placement}
 use Rattle.desk_types.specs.declared.tables.Tables.{Tables}
 use Rattle.desk_types.specs.declared.limits.TheConstants.{BATCH_MAX, ROWS_MAX}
@@ -18,7 +17,7 @@ use Rattle.desk_types.specs.Changes.{batch_made, changes, import_of, reply, swit
 use Rattle.desk_types.specs.Judged.{bad_rows, import_rows, is_within, owner_rows, part_row, refusals, row_refusal, when}
 use Rattle.desk_types.specs.State.{State}
 use Rattle.desk_types.specs.Tables.{batch_of, put}
-use Rattle.accounts.specs.Planned.{beside, is_edit}
+use Rattle.accounts.specs.Planned.{beside, is_edit, reads_no_placement}
 
 -- the tables with other placements
 bare : List Placement → Tables → Tables
@@ -54,18 +53,23 @@ unfolding bare
 same_import_of ps T account number rows (Some there) = refl
 same_import_of ps T account number rows None = ap (λ ls. map PutLine ls ++ PutBatch (batch_made T account number rows None) ∷ []) (same_lines ps T account rows)
 
-pub same_refusals : (ps : List Placement) (S : State) (call : Call) → is_edit call ≡ true → refusals S call ≡ refusals (beside ps S) call
+pub same_refusals : (ps : List Placement) (S : State) (call : Call) → reads_no_placement call ≡ true → refusals S call ≡ refusals (beside ps S) call
 unfolding refusals bare
 same_refusals ps S (AddAccount key) h = refl
 same_refusals ps S (SetQuality account line quality) h = refl
 same_refusals ps S (Suspend account suspended) h = refl
 same_refusals ps S (AddCampaign account key budget) h = refl
+same_refusals ps S (SetBudget account key campaign amount) h = absurd cc
 same_refusals ps S (AddLine account key campaign bid pattern headline link) h = refl
 same_refusals ps S (SetBid account key line bid) h = refl
 same_refusals ps S (Pause account key part on) h = part_refused ps S account key part
 same_refusals ps S (AddNegative account key campaign pattern) h = refl
 same_refusals ps S (DropNegative account key negative) h = refl
 same_refusals ps S (Import account key batch rows) h = ap (λ rows_bad. owner_rows S.tables account key ++ when (not (is_within 1 BATCH_MAX batch)) (BadField field.Batch) ∷ rows_bad) (same_import ps S.tables account (batch_of S.tables account batch) rows)
+same_refusals ps S (Credit placement) h = absurd cc
+same_refusals ps S (HostReport day) h = absurd cc
+same_refusals ps S (Report account key day) h = absurd cc
+same_refusals ps S (Shown account key day from) h = absurd cc
 same_refusals ps S (Search text places) h = absurd cc
 same_refusals ps S (Click placement) h = absurd cc
 
@@ -75,12 +79,17 @@ same_changes ps S (AddAccount key) h = refl
 same_changes ps S (SetQuality account line quality) h = refl
 same_changes ps S (Suspend account suspended) h = refl
 same_changes ps S (AddCampaign account key budget) h = refl
+same_changes ps S (SetBudget account key campaign amount) h = refl
 same_changes ps S (AddLine account key campaign bid pattern headline link) h = refl
 same_changes ps S (SetBid account key line bid) h = refl
 same_changes ps S (Pause account key part on) h = part_switched ps S.tables account part on
 same_changes ps S (AddNegative account key campaign pattern) h = refl
 same_changes ps S (DropNegative account key negative) h = refl
 same_changes ps S (Import account key batch rows) h = same_import_of ps S.tables account batch rows (batch_of S.tables account batch)
+same_changes ps S (Credit placement) h = absurd cc
+same_changes ps S (HostReport day) h = absurd cc
+same_changes ps S (Report account key day) h = absurd cc
+same_changes ps S (Shown account key day from) h = absurd cc
 same_changes ps S (Search text places) h = absurd cc
 same_changes ps S (Click placement) h = absurd cc
 
@@ -90,11 +99,16 @@ same_reply ps S (AddAccount key) h = refl
 same_reply ps S (SetQuality account line quality) h = refl
 same_reply ps S (Suspend account suspended) h = refl
 same_reply ps S (AddCampaign account key budget) h = refl
+same_reply ps S (SetBudget account key campaign amount) h = refl
 same_reply ps S (AddLine account key campaign bid pattern headline link) h = refl
 same_reply ps S (SetBid account key line bid) h = refl
 same_reply ps S (Pause account key part on) h = refl
 same_reply ps S (AddNegative account key campaign pattern) h = refl
 same_reply ps S (DropNegative account key negative) h = refl
 same_reply ps S (Import account key batch rows) h = refl
+same_reply ps S (Credit placement) h = absurd cc
+same_reply ps S (HostReport day) h = absurd cc
+same_reply ps S (Report account key day) h = absurd cc
+same_reply ps S (Shown account key day from) h = absurd cc
 same_reply ps S (Search text places) h = absurd cc
 same_reply ps S (Click placement) h = absurd cc

@@ -151,3 +151,8 @@ pub lines_joined : (gs : List ShelfValue) → AreShelves 1 gs → (tables_of gs)
 lines_joined gs h =
     joined_by (λ g. g.lines) (λ account. filter (λ (l : Line). l.account == account) (tables_of gs).lines) 1 gs (λ i d low. group_rows (λ g. g.lines) (λ (l : Line). l.account) 1 i gs d (owned_lines 1 gs h) low)
     ∙ ap (λ n. flat_map (λ account. filter (λ (l : Line). l.account == account) (tables_of gs).lines) (range_with_len 1 n)) (sym (length-map gs (λ (g : ShelfValue). g.account)))
+
+pub campaigns_joined : (gs : List ShelfValue) → AreShelves 1 gs → (tables_of gs).campaigns ≡ flat_map (λ account. filter (λ c. c.account == account) (tables_of gs).campaigns) (range_with_len 1 (length (tables_of gs).accounts))
+campaigns_joined gs h =
+    joined_by (λ g. g.campaigns) (λ account. filter (λ (c : Campaign). c.account == account) (tables_of gs).campaigns) 1 gs (λ i d low. group_rows (λ g. g.campaigns) (λ (c : Campaign). c.account) 1 i gs d (owned_campaigns 1 gs h) low)
+    ∙ ap (λ n. flat_map (λ account. filter (λ (c : Campaign). c.account == account) (tables_of gs).campaigns) (range_with_len 1 n)) (sym (length-map gs (λ (g : ShelfValue). g.account)))

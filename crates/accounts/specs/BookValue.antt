@@ -1,6 +1,7 @@
 -- A book of accounts as contracts see it.
 use Rattle.std.specs.Prelude.{Bool, true, false, ℕ, ◌+◌, ◌-◌, ◌≤◌, List, [], length, map, flat_map, All, ⊤}
 use Rattle.std.specs.List.{slice_index_or}
+use Rattle.match_types.specs.Fingerprint.{fingerprint_from}
 use Rattle.desk_types.specs.declared.rows.Account.{Account}
 use Rattle.desk_types.specs.declared.rows.Batch.{Batch}
 use Rattle.desk_types.specs.declared.rows.BudgetSet.{BudgetSet}
@@ -18,6 +19,15 @@ pub record Spare : Type 0 where
   pub lines : ℕ
   pub negatives : ℕ
   pub batches : ℕ
+
+-- the number by which the line of a pattern is looked for: the fingerprint of the pattern, begun from the campaign
+abbrev pub line_fingerprint : Line → ℕ
+line_fingerprint l = fingerprint_from l.campaign l.pattern
+
+-- the lines of an account, and how many more there is room for without memory
+pub record LinesValue : Type 0 where
+  pub rows : List Line
+  pub spare : ℕ
 
 -- an account with its rows
 pub record ShelfValue : Type 0 where

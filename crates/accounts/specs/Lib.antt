@@ -1,5 +1,6 @@
 pub mod AtHome
 pub mod BookValue
 pub mod Shelved
+pub mod Slot
 pub mod PatternFault
 pub mod Planned

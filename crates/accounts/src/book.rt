@@ -5,13 +5,14 @@ ghost use Rattle.std.specs.List.{range_with_len};
 ghost use Rattle.desk_types.specs.Tables.{no_rows};
 ghost use Rattle.desk_types.specs.declared.call.Call.{Call};
 ghost use Rattle.accounts.specs.AtHome.{CanBePut};
-ghost use Rattle.accounts.specs.Planned.{IsPlanned, IsStop, is_edit, state_on};
+ghost use Rattle.desk_types.specs.State.{State};
+ghost use Rattle.accounts.specs.Planned.{IsPlanned, IsStateOf, IsStop, is_edit, is_of_lines, reads_no_placement, state_on};
 ghost use Rattle.accounts.specs.Shelved.{HasNoShelf, HasShelf};
 
 use crate::judging::lines::Asked;
 use crate::plan::{EditFault, Plan};
 use crate::shelf::{Shelf, row_of};
-use desk_types::Call;
+use desk_types::{BudgetSet, Call};
 use std::alloc::Global;
 use std::marker::Model;
 
@@ -51,10 +52,12 @@ impl Book {
         }
     }
 
-    /// How many accounts there are. The lines of the book are theirs, one account after another.
+    /// How many accounts there are. The campaigns and the lines of the book are theirs, one account after another.
     pub fn count(&self) -> u64
         ensures count { result ≡ length self.now.tables.accounts }
         ensures below { result < 2 ^ 63 }
+        ensures campaigns { let campaigns = self.now.tables.campaigns in
+            campaigns ≡ flat_map (λ account. filter (λ c. c.account == account) campaigns) (range_with_len 1 result) }
         ensures lines { let lines = self.now.tables.lines in
             lines ≡ flat_map (λ account. filter (λ l. l.account == account) lines) (range_with_len 1 result) }
     {
@@ -73,21 +76,39 @@ impl Book {
         row_of(&self.shelves, account)
     }
 
-    /// Judges an edit at a moment, in seconds: what it changes and replies, or its first refusal. The book stays as it is,
+    /// Judges an edit at a moment, in seconds: what it changes and replies, or its first refusal. The cents that are used
+    /// today of the campaign whose budget a call sets are handed in; other calls do not read them. The book stays as it is,
     /// and no table is copied.
-    #[tactic(auto, using(crate::proofs::AtHomes::put_planned))]
-    pub fn judge(&self, call: &Call, moment: u64) -> Result<Plan, EditFault>
+    pub fn judge(&self, call: &Call, moment: u64, used: u64) -> Result<Plan, EditFault>
         requires edit { IsTrue (is_edit call.now) }
-        ensures planned { IfOk result (IsPlanned (state_on self.now.tables moment) call.now) }
+        ensures planned { IfOk result (λ plan. (S : State) → IsStateOf self.now.tables moment used call.now S
+            → IsPlanned S call.now plan) }
         ensures can_be_put { IfOk result (λ plan. CanBePut self.now.tables plan.changes) }
-        ensures stopped { IfErr result (IsStop (state_on self.now.tables moment) call.now) }
+        ensures stopped { IfErr result (λ fault. (S : State) → IsStateOf self.now.tables moment used call.now S
+            → IsStop S call.now fault) }
     {
-        self.plan(call, moment)
+        match call {
+            Call::SetBudget {
+                account,
+                key,
+                campaign,
+                amount,
+            } => {
+                let setting = BudgetSet {
+                    account: *account,
+                    campaign: *campaign,
+                    at: moment,
+                    amount: *amount,
+                };
+                self.plan_budget(key, setting, used)
+            }
+            _ => self.plan(call, moment),
+        }
     }
 
-    /// What an edit changes and replies, or its first refusal.
+    /// What an edit that reads no placement changes and replies, or its first refusal.
     fn plan(&self, call: &Call, moment: u64) -> Result<Plan, EditFault>
-        requires edit { IsTrue (is_edit call.now) }
+        requires rows_alone { IsTrue (reads_no_placement call.now) }
         ensures planned { IfOk result (IsPlanned (state_on self.now.tables moment) call.now) }
         ensures stopped { IfErr result (IsStop (state_on self.now.tables moment) call.now) }
     {
@@ -104,6 +125,37 @@ impl Book {
                 key,
                 budget,
             } => self.plan_campaign(*account, key, *budget, moment),
+            Call::Pause {
+                account,
+                key,
+                part,
+                on,
+            } => self.plan_pause(*account, key, *part, *on),
+            Call::AddNegative {
+                account,
+                key,
+                campaign,
+                pattern,
+            } => self.plan_negative(*account, key, *campaign, pattern),
+            Call::DropNegative {
+                account,
+                key,
+                negative,
+            } => self.plan_drop(*account, key, *negative),
+            Call::AddLine { .. } => self.plan_lines(call, moment),
+            Call::SetBid { .. } => self.plan_lines(call, moment),
+            Call::Import { .. } => self.plan_lines(call, moment),
+            _ => unreachable!(),
+        }
+    }
+
+    /// What a call that makes lines, or sets the bid of one, changes and replies, or its first refusal.
+    fn plan_lines(&self, call: &Call, moment: u64) -> Result<Plan, EditFault>
+        requires lines { IsTrue (is_of_lines call.now) }
+        ensures planned { IfOk result (IsPlanned (state_on self.now.tables moment) call.now) }
+        ensures stopped { IfErr result (IsStop (state_on self.now.tables moment) call.now) }
+    {
+        match call {
             Call::AddLine {
                 account,
                 key,
@@ -128,30 +180,13 @@ impl Book {
                 line,
                 bid,
             } => self.plan_bid(*account, key, *line, *bid),
-            Call::Pause {
-                account,
-                key,
-                part,
-                on,
-            } => self.plan_pause(*account, key, *part, *on),
-            Call::AddNegative {
-                account,
-                key,
-                campaign,
-                pattern,
-            } => self.plan_negative(*account, key, *campaign, pattern),
-            Call::DropNegative {
-                account,
-                key,
-                negative,
-            } => self.plan_drop(*account, key, *negative),
             Call::Import {
                 account,
                 key,
                 batch,
                 rows,
             } => self.plan_import(*account, key, *batch, rows.as_slice()),
-            Call::Search { .. } | Call::Click { .. } => unreachable!(),
+            _ => unreachable!(),
         }
     }
 }

@@ -25,7 +25,7 @@ impl Shelf {
         match change {
             Change::PutCampaign(_) => self.campaigns.reserve(count),
             Change::PutBudget(_) => self.budgets.reserve(count),
-            Change::PutLine(_) => self.lines.reserve(count),
+            Change::PutLine(_) => self.lines.make_room(count),
             Change::PutNegative(_) => self.negatives.reserve(count),
             Change::PutBatch(_) => self.batches.reserve(count),
             Change::PutAccount(_) | Change::PutPlacement(_) | Change::PutFate { .. } => Ok(()),
@@ -43,7 +43,7 @@ impl Shelf {
             Change::PutAccount(row) => self.account = row,
             Change::PutCampaign(row) => put(&mut self.campaigns, row),
             Change::PutBudget(row) => put(&mut self.budgets, row),
-            Change::PutLine(row) => put(&mut self.lines, row),
+            Change::PutLine(row) => self.lines.put(row),
             Change::PutNegative(row) => put(&mut self.negatives, row),
             Change::PutBatch(row) => put(&mut self.batches, row),
             Change::PutPlacement(_) | Change::PutFate { .. } => {}

@@ -6,6 +6,7 @@ ghost use Rattle.std.specs.Vec.{vec_capacity, vec_len};
 ghost use Rattle.desk_types.specs.Keys.{account_key, batch_key, budget_key, campaign_key, is_less_key, line_key, negative_key, placement_key};
 ghost use Rattle.desk_types.specs.Sound.{AreInOrder};
 ghost use Rattle.desk_types.specs.Tables.{has_key, put_row};
+ghost use Rattle.accounts.specs.Slot.{IsSlot};
 
 use desk_types::{Account, Batch, BudgetSet, Campaign, Line, Negative, Placement, day_of};
 
@@ -18,6 +19,15 @@ pub trait Keyed: Drop {
         ensures { result ≡ is_less_key (key self.now) (key other.now) };
 }
 
+/// Where a row goes by its key.
+#[derive(Clone, Copy)]
+pub(crate) enum Slot {
+    /// In place of the row there, which has its key.
+    Taken(usize),
+    /// Before the row there, or last; no row has its key.
+    Free(usize),
+}
+
 /// Puts a row by its key: in place of the one with its key, or else before the first with a greater one. It takes no
 /// memory.
 pub fn put<R: Keyed>(rows: &mut Vec<R>, row: R)
@@ -27,14 +37,26 @@ pub fn put<R: Keyed>(rows: &mut Vec<R>, row: R)
     ensures capacity { vec_capacity rows.old ≤ vec_capacity rows.new }
     ensures length { vec_len rows.new ≤ vec_len rows.old + 1 }
 {
-    let place = place_of(rows, &row);
-    if place < rows.len() && !row.is_before(&rows[place]) {
-        rows[place] = row;
-        return;
+    match slot_of(rows, &row) {
+        Slot::Taken(place) => rows[place] = row,
+        Slot::Free(place) => {
+            let Ok(()) = rows.insert(place, row) else {
+                unreachable!()
+            };
+        }
     }
-    let Ok(()) = rows.insert(place, row) else {
-        unreachable!()
-    };
+}
+
+/// Where a row goes among rows in order.
+pub(crate) fn slot_of<R: Keyed>(rows: &[R], row: &R) -> Slot
+    requires { AreInOrder R.key rows.now }
+    ensures { IsSlot R.key row.now rows.now result }
+{
+    let place = place_of(rows, row);
+    if place < rows.len() && !row.is_before(&rows[place]) {
+        return Slot::Taken(place);
+    }
+    Slot::Free(place)
 }
 
 /// The place of a row's key: how many rows have lesser ones.

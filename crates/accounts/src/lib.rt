@@ -1,4 +1,4 @@
-//! The catalogue of a desk: accounts, campaigns, budget settings, lines, negatives and batches, and their edits.
+//! The rows of a desk but its placements: accounts, campaigns, budgets, lines, negatives and batches, and their edits.
 //! `Book::judge` gives the changes and the reply of an edit, or its first refusal, as the ledger does, `Book::make_room` takes
 //! the memory for them, and `Book::commit` puts them. Rows are kept for each account by their numbers.
 //! It stands on `desk_types` for rows, calls and definitions, on `match_types` and `query_words` for patterns and texts.
@@ -10,6 +10,7 @@ mod commit;
 mod judging;
 pub mod keyed;
 pub mod laws;
+mod line_table;
 mod plan;
 pub mod raising;
 mod searching;

@@ -72,7 +72,7 @@ impl Book {
         ensures { result.now ≡ filter (λ l. l.account == account) self.now.tables.lines }
     {
         match self.shelf(account) {
-            Some(shelf) => &shelf.lines,
+            Some(shelf) => shelf.lines.as_slice(),
             None => &[],
         }
     }

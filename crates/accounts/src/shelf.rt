@@ -4,10 +4,11 @@ ghost use Rattle.std.specs.Prelude.{◌≡◌, ℕ, ◌-◌, ◌<◌, ◌≤◌,
 ghost use Rattle.std.specs.Option.{option_copied};
 ghost use Rattle.desk_types.specs.declared.tables.Tables.{Tables};
 ghost use Rattle.match_types.specs.Tests.{is_same_pattern};
-ghost use Rattle.desk_types.specs.Judged.{is_dropped_like, is_line_like, is_live_like};
+ghost use Rattle.desk_types.specs.Judged.{is_dropped_like, is_live_like};
 ghost use Rattle.desk_types.specs.Tables.{campaign_of, campaigns_of, line_of, lines_of, negative_of, negatives_of};
 ghost use Rattle.accounts.specs.Shelved.{HasShelf};
 
+use crate::line_table::LineTable;
 use desk_types::{Account, Batch, BudgetSet, Campaign, Line, Negative};
 use match_types::Pattern;
 use std::alloc::Global;
@@ -19,7 +20,7 @@ pub(crate) struct Shelf {
     pub(crate) account: Account,
     pub(crate) campaigns: Vec<Campaign>,
     pub(crate) budgets: Vec<BudgetSet>,
-    pub(crate) lines: Vec<Line>,
+    pub(crate) lines: LineTable,
     pub(crate) negatives: Vec<Negative>,
     pub(crate) batches: Vec<Batch>,
 }
@@ -35,13 +36,13 @@ impl Model for Shelf {
       account = s.account;
       campaigns = s.campaigns.items;
       budgets = s.budgets.items;
-      lines = s.lines.items;
+      lines = s.lines.rows;
       negatives = s.negatives.items;
       batches = s.batches.items;
       spare = record {
         campaigns = vec_capacity s.campaigns - vec_len s.campaigns;
         budgets = vec_capacity s.budgets - vec_len s.budgets;
-        lines = vec_capacity s.lines - vec_len s.lines;
+        lines = s.lines.spare;
         negatives = vec_capacity s.negatives - vec_len s.negatives;
         batches = vec_capacity s.batches - vec_len s.batches;
       };
@@ -58,7 +59,7 @@ impl Shelf {
             account,
             campaigns: Vec::new(alloc),
             budgets: Vec::new(alloc),
-            lines: Vec::new(alloc),
+            lines: LineTable::new(alloc),
             negatives: Vec::new(alloc),
             batches: Vec::new(alloc),
         }
@@ -88,7 +89,7 @@ impl Shelf {
         ensures { (T : Tables) (account : ℕ) → HasShelf T account self.now
             → option_copied result ≡ line_of T account number }
     {
-        row_of(&self.lines, number)
+        row_of(self.lines.as_slice(), number)
     }
 
     /// The negative of a number, if there is one.
@@ -97,14 +98,6 @@ impl Shelf {
             → option_copied result ≡ negative_of T account number }
     {
         row_of(&self.negatives, number)
-    }
-
-    /// The line of a campaign with the same pattern, if there is one.
-    pub(crate) fn same_line(&self, campaign: u64, pattern: &Pattern) -> Option<&Line>
-        ensures { (T : Tables) (account : ℕ) → HasShelf T account self.now
-            → option_copied result ≡ find (is_line_like account campaign pattern.now) T.lines }
-    {
-        line_like(&self.lines, campaign, pattern)
     }
 
     /// The live negative of a campaign with the same pattern, if there is one.
@@ -138,7 +131,7 @@ impl Shelf {
         ensures count { (T : Tables) (account : ℕ) → HasShelf T account self.now → result ≡ lines_of T account }
         ensures below { result < 2 ^ 63 }
     {
-        self.lines.len() as u64
+        self.lines.as_slice().len() as u64
     }
 
     /// How many negatives the account has, dropped ones among them.
@@ -149,14 +142,6 @@ impl Shelf {
     {
         self.negatives.len() as u64
     }
-}
-
-/// The first of these lines that is of the campaign and has the pattern.
-pub(crate) fn line_like<'a>(lines: &'a [Line], campaign: u64, pattern: &Pattern) -> Option<&'a Line>
-    ensures { option_copied result
-        ≡ find (λ l. l.campaign == campaign && is_same_pattern l.pattern pattern.now) lines.now }
-{
-    lines.iter().find(|row| row.campaign == campaign && row.pattern.is_same(pattern))
 }
 
 /// The first of these negatives that is of the campaign, lives and has the pattern.

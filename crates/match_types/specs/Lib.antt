@@ -1,3 +1,4 @@
+pub mod Fingerprint
 pub mod Marks
 pub mod Meets
 pub mod Pattern

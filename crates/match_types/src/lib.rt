@@ -6,6 +6,7 @@
 //! Which line of which campaign has a pattern, and what it bids, is left to the crates above.
 #![tactic(auto)]
 
+mod fingerprint;
 mod kind;
 mod matching;
 mod pattern;

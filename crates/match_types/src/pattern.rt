@@ -1,10 +1,12 @@
 // A pattern, and its reading.
 ghost use Rattle.std.specs.Prelude.{◌≡◌, ◌≢◌, ◌≤◌, ◌↔◌, ℕ, List, None, Some, length, IsTrue, IfOk, OnOk, IfErr};
 ghost use Rattle.query_words.specs.Words.{words_of};
+ghost use Rattle.match_types.specs.Fingerprint.{fingerprint_from};
 ghost use Rattle.match_types.specs.Marks.{trimmed, kind_of};
 ghost use Rattle.match_types.specs.Pattern.{cause_of, words_in, refusal, negative_text, negative_refusal, words_cause, IsPattern, IsSamePattern};
 ghost use Rattle.match_types.specs.Tests.{is_same_pattern};
 
+use crate::fingerprint::{joined, joined_words, kind_number};
 use crate::kind::MatchType;
 use crate::matching::matches;
 use crate::reading::{
@@ -107,6 +109,18 @@ impl Pattern {
         ensures test { result ≡ is_same_pattern self.now other.now }
     {
         self.kind == other.kind && matches(MatchType::Exact, &self.words, &other.words)
+    }
+
+    /// A number of its kind and its words, begun from another. From the same start, patterns that are the same have the
+    /// same fingerprint, and others hardly ever have.
+    #[tactic(auto, using(crate::proofs::Fingerprints::same_fingerprint), unfolding(crate::specs::Fingerprint::fingerprint_from))]
+    pub fn fingerprint(&self, start: u64) -> u64
+        ensures value { result ≡ fingerprint_from start self.now }
+        ensures same { (other : List ℕ) → IsTrue (is_same_pattern other self.now)
+            → fingerprint_from start other ≡ result }
+    {
+        let begun = joined(start, kind_number(self.kind));
+        joined_words(begun, self.words.as_slice())
     }
 }
 

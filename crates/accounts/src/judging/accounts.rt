@@ -3,8 +3,8 @@
 ghost use Rattle.std.specs.Prelude.{◌≡◌, ℕ, ◌+◌, [], ◌∷◌, None, IfErr, IfOk, OnOk};
 ghost use Rattle.desk_types.specs.declared.call.Call.{Call};
 ghost use Rattle.desk_types.specs.declared.tables.Tables.{Tables};
-ghost use Rattle.desk_types.specs.Judged.{campaign_row};
-ghost use Rattle.accounts.specs.Planned.{IsFirst, IsPlanned, IsStop, state_on};
+ghost use Rattle.desk_types.specs.Judged.{campaign_row, first};
+ghost use Rattle.accounts.specs.Planned.{IsFirst, IsPlanned, IsStop, budget_rows, state_on};
 ghost use Rattle.accounts.specs.Shelved.{HasShelf};
 
 use crate::book::Book;
@@ -92,6 +92,33 @@ impl Book {
             changes: List::from_vec(changes),
             reply: Reply::Made(number),
         })
+    }
+
+    /// Plans the setting of a budget: it takes the place of an earlier one of the same day. So much is used today.
+    pub(crate) fn plan_budget(
+        &self,
+        key: &Text,
+        setting: BudgetSet,
+        used: u64,
+    ) -> Result<Plan, EditFault>
+        ensures changed { IfOk result (λ plan. plan.changes ≡ Change.PutBudget setting ∷ []) }
+        ensures replied { IfOk result (λ plan. plan.reply ≡ Reply.Done) }
+        ensures passed { let s = setting in OnOk result
+            (first (budget_rows self.now.tables used s.account key.now s.campaign s.amount) ≡ None) }
+        ensures stopped { let s = setting in IfErr result
+            (IsFirst (budget_rows self.now.tables used s.account key.now s.campaign s.amount)) }
+    {
+        let shelf = self.owner(setting.account, key)?;
+        when(
+            shelf.campaign(setting.campaign).is_none(),
+            Refusal::NoCampaign,
+        )?;
+        when(
+            !(BUDGET_MIN..=BUDGET_MAX).contains(&setting.amount),
+            Refusal::BadField(Field::Budget),
+        )?;
+        when(setting.amount < used, Refusal::BudgetBelowUsed(used))?;
+        Ok(Plan::one(self.alloc(), Change::PutBudget(setting), Reply::Done)?)
     }
 }
 

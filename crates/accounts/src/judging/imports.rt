@@ -13,6 +13,7 @@ ghost use Rattle.accounts.specs.Shelved.{HasShelf, IsBehind};
 
 use crate::book::Book;
 use crate::judging::lines::Asked;
+use crate::line_table::LineTable;
 use crate::plan::{EditFault, Plan, when};
 use crate::shelf::Shelf;
 use desk_types::limits::{BATCH_MAX, ROWS_MAX};
@@ -89,14 +90,14 @@ impl Shelf {
         ensures stopped { IfErr result (λ fault. (T : Tables) → HasShelf T account self.now
             → IsFirst (bad_rows T account 1 rows.now) fault) }
     {
-        let mut made = Vec::new(*self.lines.allocator());
+        let mut made = LineTable::new(*self.campaigns.allocator());
         let mut number = 1;
         for row in rows {
             let line = self.row_made(account, &made, number, row)?;
-            put_last(&mut made, line)?;
+            made.push(line)?;
             number += 1;
         }
-        Ok(made)
+        Ok(made.into_rows())
     }
 
     /// The line that a row of an import makes behind lines that were made before it, or why the row of this number is
@@ -104,15 +105,15 @@ impl Shelf {
     fn row_made(
         &self,
         account: u64,
-        made: &[Line],
+        made: &LineTable,
         number: u64,
         row: &ImportRow,
     ) -> Result<Line, EditFault>
-        ensures line { IfOk result (λ line. (T : Tables) → IsBehind T account self.now made.now
+        ensures line { IfOk result (λ line. (T : Tables) → IsBehind T account self.now made.now.rows
             → line ≡ line_made T account (asked_by row.now)) }
-        ensures passed { OnOk result ((T : Tables) → IsBehind T account self.now made.now
+        ensures passed { OnOk result ((T : Tables) → IsBehind T account self.now made.now.rows
             → row_refusal T account number row.now ≡ None) }
-        ensures stopped { IfErr result (λ fault. (T : Tables) → IsBehind T account self.now made.now
+        ensures stopped { IfErr result (λ fault. (T : Tables) → IsBehind T account self.now made.now.rows
             → IsFirst (row_refusal T account number row.now ∷ []) fault) }
     {
         let asked = Asked {
@@ -144,13 +145,6 @@ fn in_row(number: u64, fault: EditFault) -> EditFault
         EditFault::Refused(cause) => EditFault::Refused(Refusal::BadRow(number, cause.number())),
         EditFault::NoMemory => EditFault::NoMemory,
     }
-}
-
-/// Puts a line behind others.
-fn put_last(lines: &mut Vec<Line>, line: Line) -> Result<(), NoMemory>
-    ensures { OnOk result (lines.new.items ≡ lines.old.items ++ line ∷ []) }
-{
-    Ok(lines.push(line)?)
 }
 
 /// The changes that put lines, and then their batch.

@@ -12,8 +12,9 @@ ghost use Rattle.accounts.specs.Planned.{IsFirst, IsPlanned, IsStop, state_on};
 ghost use Rattle.accounts.specs.Shelved.{HasShelf, IsBehind};
 
 use crate::book::Book;
+use crate::line_table::LineTable;
 use crate::plan::{EditFault, Plan, when};
-use crate::shelf::{Shelf, line_like, row_of};
+use crate::shelf::{Shelf, row_of};
 use auction_types::limits::{BID_MAX, BID_MIN};
 use desk_types::limits::{LINES_MAX, QUALITY_NEW};
 use desk_types::{Change, Field, Line, LinkText, Refusal, Reply, is_headline};
@@ -60,7 +61,7 @@ impl Book {
             (Call.AddLine account key.now a.campaign a.bid a.pattern a.headline a.link)) }
     {
         let shelf = self.owner(account, key)?;
-        let line = shelf.line_made(account, &[], asked)?;
+        let line = shelf.line_made(account, &LineTable::new(self.alloc()), asked)?;
         let number = line.number;
         Ok(Plan::one(self.alloc(), Change::PutLine(line), Reply::Made(number))?)
     }
@@ -72,14 +73,14 @@ impl Shelf {
     pub(crate) fn line_made(
         &self,
         account: u64,
-        made: &[Line],
+        made: &LineTable,
         asked: &Asked<'_>,
     ) -> Result<Line, EditFault>
-        ensures line { IfOk result (λ line. (T : Tables) → IsBehind T account self.now made.now
+        ensures line { IfOk result (λ line. (T : Tables) → IsBehind T account self.now made.now.rows
             → line ≡ line_made T account asked.now) }
-        ensures passed { OnOk result ((T : Tables) → IsBehind T account self.now made.now
+        ensures passed { OnOk result ((T : Tables) → IsBehind T account self.now made.now.rows
             → first (line_rows T account asked.now) ≡ None) }
-        ensures stopped { IfErr result (λ fault. (T : Tables) → IsBehind T account self.now made.now
+        ensures stopped { IfErr result (λ fault. (T : Tables) → IsBehind T account self.now made.now.rows
             → IsFirst (line_rows T account asked.now) fault) }
     {
         when(self.lacks_campaign(asked.campaign), Refusal::NoCampaign)?;
@@ -87,7 +88,7 @@ impl Shelf {
             !(BID_MIN..=BID_MAX).contains(&asked.bid),
             Refusal::BadField(Field::Bid),
         )?;
-        let pattern = Pattern::read(*self.lines.allocator(), asked.pattern.as_str())?;
+        let pattern = Pattern::read(*self.campaigns.allocator(), asked.pattern.as_str())?;
         when(
             !is_headline(asked.headline.as_str()),
             Refusal::BadField(Field::Headline),
@@ -125,25 +126,26 @@ impl Shelf {
     /// them.
     fn line_there<'a>(
         &'a self,
-        made: &'a [Line],
+        made: &'a LineTable,
         campaign: u64,
         pattern: &Pattern,
     ) -> Option<&'a Line>
-        ensures { (T : Tables) (account : ℕ) → IsBehind T account self.now made.now
+        ensures { (T : Tables) (account : ℕ) → IsBehind T account self.now made.now.rows
             → option_copied result ≡ find (is_line_like account campaign pattern.now) T.lines }
     {
-        match line_like(&self.lines, campaign, pattern) {
+        match self.lines.line_like(campaign, pattern) {
             Some(line) => Some(line),
-            None => line_like(made, campaign, pattern),
+            None => made.line_like(campaign, pattern),
         }
     }
 
     /// How many lines the account has with those that are made behind them.
     #[tactic(auto, using(crate::proofs::Finds::counted_behind))]
-    fn count_behind(&self, made: &[Line]) -> u64
-        ensures count { (T : Tables) (account : ℕ) → IsBehind T account self.now made.now → result ≡ lines_of T account }
+    fn count_behind(&self, made: &LineTable) -> u64
+        ensures count { (T : Tables) (account : ℕ) → IsBehind T account self.now made.now.rows
+            → result ≡ lines_of T account }
         ensures below { result < 2 ^ 64 - 1 }
     {
-        self.lines.len() as u64 + made.len() as u64
+        self.lines.as_slice().len() as u64 + made.as_slice().len() as u64
     }
 }

@@ -7,4 +7,4 @@ use Rattle.accounts.proofs.shelf.Shelf.lines_made.Given as goal
 abbrev pub invariant-loop-row : goal.invariant-loop-row
 invariant-loop-row l =
     (l.number ≡ l.row-index + 1)
-    × ((T : Tables) → HasShelf T l.account l.self → AreMade T l.account l.self l.rows l.made.items l.number (drop l.row-index l.rows))
+    × ((T : Tables) → HasShelf T l.account l.self → AreMade T l.account l.self l.rows l.made.rows l.number (drop l.row-index l.rows))

@@ -1,14 +1,15 @@
 -- The changes of an accepted call are lawful.
-use Rattle.std.proofs.Common.{◌≡◌, ◌≢◌, ℕ, ◌+◌, ◌≤◌, Bool, true, false, not, ◌==◌, ◌&&◌, ◌||◌, inl, inr, List, [], ◌∷◌, ◌++◌, find, length, map, Option, None, Some, is_some, option_map, refl, sym, ap, subst, ◌∙◌, arith, length-append}
-use Rattle.std.specs.Prelude.{nat_le}
+use Rattle.std.proofs.Common.{◌≡◌, ◌≢◌, ℕ, ◌+◌, ◌≤◌, ◌<◌, Bool, true, false, not, ◌==◌, ◌&&◌, inl, inr, List, [], ◌∷◌, ◌++◌, find, length, map, Option, None, Some, is_none, is_some, option_map, refl, sym, ap, subst, ◌∙◌, arith, length-append}
+use Rattle.std.specs.Prelude.{nat_le, nat_lt}
 use Rattle.std.specs.List.{count_by}
 use Rattle.std.proofs.lemmas.Bool.{cases_Bool, cond-true, cond-false, both_ways, and_parts, and_left, eqb-true, ne_eqb}
 use Rattle.std.proofs.lemmas.Bool.Decides.{nat_tests}
 use Rattle.std.proofs.lemmas.Option.{same_Some}
 use Rattle.query_words.specs.Words.{words_of}
 use Rattle.auction_types.specs.declared.limits.TheConstants.{BID_MIN, BID_MAX, QUALITY_MIN, QUALITY_MAX}
+use Rattle.desk_types.specs.declared.limits.TheConstants.{ACCOUNTS_MAX, BUDGET_MAX, BUDGET_MIN, CAMPAIGNS_MAX}
 use Rattle.desk_types.specs.declared.call.Call.{Call}
-use Rattle.desk_types.specs.declared.call.Call.TheVariants.{AddAccount, SetQuality, Suspend, AddCampaign, AddLine, SetBid, Pause, AddNegative, DropNegative, Import, Search, Click}
+use Rattle.desk_types.specs.declared.call.Call.TheVariants.{AddAccount, SetQuality, Suspend, Credit, AddCampaign, SetBudget, AddLine, SetBid, Pause, AddNegative, DropNegative, Import, Search, Click}
 use Rattle.desk_types.specs.declared.call.ImportRow.{ImportRow}
 use Rattle.desk_types.specs.declared.call.Part.{Part}
 use Rattle.desk_types.specs.declared.call.Part.TheVariants.{OfCampaign, OfLine}
@@ -18,19 +19,19 @@ use Rattle.desk_types.specs.declared.rows.Account.{Account}
 use Rattle.desk_types.specs.declared.rows.Batch.{Batch}
 use Rattle.desk_types.specs.declared.rows.BudgetSet.{BudgetSet}
 use Rattle.desk_types.specs.declared.rows.Campaign.{Campaign}
-use Rattle.desk_types.specs.declared.rows.Fate.TheVariants.{Settled}
+use Rattle.desk_types.specs.declared.rows.Fate.{Fate}
+use Rattle.desk_types.specs.declared.rows.Fate.TheVariants.{Open, Settled, Credited}
 use Rattle.desk_types.specs.declared.rows.Line.{Line}
 use Rattle.desk_types.specs.declared.rows.Negative.{Negative}
 use Rattle.desk_types.specs.declared.rows.Placement.{Placement}
 use Rattle.desk_types.specs.declared.tables.Change.TheVariants.{PutAccount, PutCampaign, PutBudget, PutLine, PutNegative, PutPlacement, PutBatch, PutFate}
-use Rattle.desk_types.specs.declared.tables.Tables.{Tables}
 use Rattle.auction_types.specs.AdValue.{AdValue, IsBid, IsInRange, IsQuality}
-use Rattle.desk_types.specs.Asked.{asked_by, line_made, lines_made, with_line}
-use Rattle.desk_types.specs.Changes.{all_placed, changes, drop_of, import_of, live_again, placed, placements_for, put_found, settlement, switch_of}
+use Rattle.desk_types.specs.Asked.{asked_by, line_made, lines_made}
+use Rattle.desk_types.specs.Changes.{all_placed, changes, credit_of, credit_on, drop_of, import_of, live_again, placed, placements_for, put_found, settlement, switch_of}
 use Rattle.desk_types.specs.Day.{day_of}
 use Rattle.desk_types.specs.Eligible.{ad_of, entrants_for}
-use Rattle.desk_types.specs.Judged.{AskedLine, bad_rows, dropped_negative, first, import_rows, is_within, judged, line_rows, page_of, places_of, refusals, when}
-use Rattle.desk_types.specs.Keys.{account_key, batch_key, campaign_key, is_same_key, line_key, negative_key, placement_key}
+use Rattle.desk_types.specs.Judged.{AskedLine, bad_rows, dropped_negative, first, import_rows, is_within, judged, line_rows, page_of, places_of, refusals, used_today, when}
+use Rattle.desk_types.specs.Keys.{account_key, batch_key, campaign_key, line_key, negative_key, placement_key}
 use Rattle.desk_types.specs.Money.{budget, escrowed, is_escrowed, is_set_by, spent, used}
 use Rattle.auction_types.specs.Price.{price}
 use Rattle.desk_types.specs.Refusal.{number_of}
@@ -42,12 +43,13 @@ use Rattle.desk_types.proofs.Costs.{cost, cost-other, free-pays}
 use Rattle.desk_types.proofs.EachRow.{Each}
 use Rattle.desk_types.proofs.SecondPrice.{apart_entrants, apart_page, entrant_line, fit_entrant, lines_in_range, page_among}
 use Rattle.desk_types.proofs.InOrder.{Each-from_All}
+use Rattle.desk_types.proofs.Legality.{room_below, room_up_to}
 use Rattle.auction_types.proofs.Accounts.{AreApart}
-use Rattle.desk_types.proofs.Lawful.{AreLawful, IsGoodLine, IsOnward, IsPayable, changed, finds_one, finds_two, found_all, used-shown, within_used}
+use Rattle.desk_types.proofs.Lawful.{AreLawful, IsGoodLine, IsOnward, IsPayable, changed, finds_one, finds_two, found_all, found_has, found_test, unused_later, used-shown, within_used}
 use Rattle.auction_types.proofs.Members.{Has}
 use Rattle.desk_types.proofs.Numbering.{group_new, next_last, next_new}
 use Rattle.auction_types.proofs.PriceLemmas.{price-le-bid}
-use Rattle.desk_types.proofs.Puts.{find-put_same, has-find, key_same}
+use Rattle.desk_types.proofs.Puts.{find-put_same, has-find}
 use Rattle.desk_types.proofs.Sound.{sound_put}
 
 -- a table of which no refusal holds
@@ -60,29 +62,9 @@ pub not_when : (b : Bool) (r : Refusal) → when b r ≡ None → b ≡ false
 not_when false r h = refl
 not_when true r h = absurd cc
 
-or_right : (a b : Bool) → b ≡ true → (a || b) ≡ true
-or_right true b h = refl
-or_right false b h = h
-
--- a row that was found has its key there
-found_has : {A : Type 0} (key : A → List ℕ) (test : A → Bool) (rows : List A) (x : A) → find test rows ≡ Some x → has_key key (key x) rows ≡ true
-found_has key test [] x h = absurd cc
-found_has key test (r ∷ rows) x h =
-    elim (cases_Bool (test r)) [
-      | inl t ↦
-          let e : r ≡ x = same_Some r x (sym (cond-true (test r) (Some r) (find test rows) t) ∙ h) in
-          ap (λ b. b || has_key key (key x) rows) (key_same (key r) (key x) (ap key e))
-      | inr t ↦ or_right (is_same_key (key r) (key x)) (has_key key (key x) rows) (found_has key test rows x (sym (cond-false (test r) (Some r) (find test rows) t) ∙ h))
-    ]
-
--- what is found passes the test
-pub found_test : {A : Type 0} (test : A → Bool) (rows : List A) (x : A) → find test rows ≡ Some x → test x ≡ true
-found_test test [] x h = absurd cc
-found_test test (r ∷ rows) x h =
-    elim (cases_Bool (test r)) [
-      | inl t ↦ subst (λ y. test y ≡ true) (same_Some r x (sym (cond-true (test r) (Some r) (find test rows) t) ∙ h)) t
-      | inr t ↦ found_test test rows x (sym (cond-false (test r) (Some r) (find test rows) t) ∙ h)
-    ]
+pub some_from : {A : Type 0} (o : Option A) → is_none o ≡ false → is_some o ≡ true
+some_from None h = absurd cc
+some_from (Some x) h = refl
 
 pair_parts : (a b x y : ℕ) → a ∷ b ∷ [] ≡ x ∷ y ∷ [] → (a ≡ x) × (b ≡ y)
 pair_parts a b x y e = (cc, cc)
@@ -108,26 +90,51 @@ none_of_false None h = refl
 none_of_false (Some x) h = absurd cc
 
 -- the next campaign of an account is new, and has no budget setting
-lawful_campaign : (S : State) (account amount : ℕ) → IsSound S → let number = campaigns_of S.tables account + 1 in
+lawful_campaign : (S : State) (account amount : ℕ) → IsSound S → amount ≤ BUDGET_MAX → campaigns_of S.tables account + 1 ≤ CAMPAIGNS_MAX → let number = campaigns_of S.tables account + 1 in
     AreLawful S (PutCampaign (record { account = account; number = number; on = true }) ∷ PutBudget (record { account = account; campaign = number; at = S.moment; amount = amount }) ∷ [])
 unfolding put spent escrowed
-lawful_campaign S account amount h =
+lawful_campaign S account amount h within room =
     let number = campaigns_of S.tables account + 1 in
     let made : Campaign = record { account = account; number = number; on = true } in
     let test = λ (c : Campaign). c.account == account && c.number == number in
     let finds = finds_two campaign_key (λ (c : Campaign). c.account) (λ c. c.number) account number (λ x. refl) in
     let new = group_new campaign_key (λ (c : Campaign). c.account) (λ c. c.number) made S.tables.campaigns (λ x. refl) h.numbered.campaigns refl in
     let unknown : is_some (campaign_of S.tables account number) ≡ false = sym (has-find campaign_key (account ∷ number ∷ []) test S.tables.campaigns finds) ∙ new in (
-      inr refl,
+      record { next = inr refl; room = inr room },
       (
         record {
           there = ap is_some (find-put_same campaign_key made test S.tables.campaigns finds);
           covers = λ day later.
               let none = budget-none S account number day (no_setting S account number day S.tables.budgets unknown (Each-from_All (λ (b : BudgetSet). is_some (campaign_of S.tables b.account b.campaign) ≡ true) S.tables.budgets h.named.budgets)) in
               omega (arith, none, within_used S h.within_budgets account number day);
+          within = within;
+          past = omega arith;
         },
         tt,
       ),
+    )
+
+-- a setting of today that covers what is used today: nothing is used of a day that is to come
+below : (a b : ℕ) → nat_lt a b ≡ true → a < b
+below a b h = grind (arith, nat_tests)
+
+lawful_set : (S : State) (account campaign amount : ℕ) → IsSound S → is_some (campaign_of S.tables account campaign) ≡ true → amount ≤ BUDGET_MAX → used_today S account campaign ≤ amount
+    → AreLawful S (PutBudget (record { account = account; campaign = campaign; at = S.moment; amount = amount }) ∷ [])
+lawful_set S account campaign amount h there within fits =
+    let today = day_of S.moment in (
+      record {
+        there = there;
+        covers = λ day later.
+            elim (cases_Bool (nat_lt today day)) [
+              | inl t ↦ omega (arith, unused_later S account campaign day h (below today day t))
+              | inr t ↦
+                  let is : today ≡ day = omega (arith, later, room_up_to day today t) in
+                  subst (λ d. used S account campaign d ≤ amount) is fits
+            ];
+        within = within;
+        past = omega arith;
+      },
+      tt,
     )
 
 pub from_not : (b : Bool) → not b ≡ false → b ≡ true
@@ -136,6 +143,9 @@ from_not false h = absurd cc
 
 bid_in : (bid : ℕ) → is_within BID_MIN BID_MAX bid ≡ true → IsBid bid
 bid_in bid within = grind (arith, nat_tests, within)
+
+amount_in : (amount : ℕ) → is_within BUDGET_MIN BUDGET_MAX amount ≡ true → amount ≤ BUDGET_MAX
+amount_in amount within = grind (arith, nat_tests, within)
 
 -- the line that is made has a bid in range, and is the account's next one
 lawful_line : (S : State) (account : ℕ) (asked : AskedLine) → IsSound S → is_within BID_MIN BID_MAX asked.bid ≡ true → AreLawful S (PutLine (line_made S.tables account asked) ∷ [])
@@ -181,13 +191,13 @@ lawful_line_found S account number new (Some l) is h same in_range link =
     (lawful_changed S account number l (new l) is (same l) (in_range l known.0) (link l), tt)
 
 -- the next account is new
-lawful_account : (S : State) (key : List ℕ) → IsSound S → AreLawful S (PutAccount (record { number = length S.tables.accounts + 1; key = key; suspended = false }) ∷ [])
-lawful_account S key h =
+lawful_account : (S : State) (key : List ℕ) → IsSound S → length S.tables.accounts + 1 ≤ ACCOUNTS_MAX → AreLawful S (PutAccount (record { number = length S.tables.accounts + 1; key = key; suspended = false }) ∷ [])
+lawful_account S key h room =
     let a : Account = record { number = length S.tables.accounts + 1; key = key; suspended = false } in
     let new = next_new account_key (λ (x : Account). x.number) a S.tables.accounts (λ x. refl) h.numbered.accounts refl in
     let test = λ (x : Account). x.number == a.number in
     let unknown : is_some (account_of S.tables a.number) ≡ false = sym (has-find account_key (a.number ∷ []) test S.tables.accounts (finds_one account_key (λ (x : Account). x.number) a.number (λ x. refl))) ∙ new in
-    (record { next = inr refl; same_key = λ old known. absurd (both_ways _ unknown (ap is_some known)) }, tt)
+    (record { next = inr refl; room = inr room; same_key = λ old known. absurd (both_ways _ unknown (ap is_some known)) }, tt)
 
 -- an account that is there keeps its key
 lawful_suspended : (S : State) (account : ℕ) (suspended : Bool) (found : Option Account) → account_of S.tables account ≡ found
@@ -198,6 +208,7 @@ lawful_suspended S account suspended (Some a) is =
     let here : a.number ≡ account = eqb-true a.number account (found_test test S.tables.accounts a is) in (
       record {
         next = inl (found_has account_key test S.tables.accounts a is);
+        room = inl (found_has account_key test S.tables.accounts a is);
         same_key = λ old known. ap (λ (x : Account). x.key) (same_Some a old (sym (ap (account_of S.tables) here ∙ is) ∙ known));
       },
       tt,
@@ -206,7 +217,9 @@ lawful_suspended S account suspended (Some a) is =
 lawful_campaign_found : (S : State) (on : Bool) (test : Campaign → Bool) (found : Option Campaign) → find test S.tables.campaigns ≡ found
     → AreLawful S (put_found (λ c. PutCampaign (record c { on = on })) found)
 lawful_campaign_found S on test None is = tt
-lawful_campaign_found S on test (Some c) is = (inl (found_has campaign_key test S.tables.campaigns c is), tt)
+lawful_campaign_found S on test (Some c) is =
+    let there = found_has campaign_key test S.tables.campaigns c is in
+    (record { next = inl there; room = inl there }, tt)
 
 lawful_switched : (S : State) (account : ℕ) (part : Part) (on : Bool) → IsSound S → AreLawful S (switch_of S.tables account part on)
 lawful_switched S account (OfCampaign campaign) on h = lawful_campaign_found S on _ (campaign_of S.tables account campaign) refl
@@ -258,6 +271,18 @@ lawful_click S placement (Some p) is h =
       | inr t ↦ subst (AreLawful S) (sym (cond-false _ (PutFate p.number (Settled S.moment) ∷ []) [] t)) tt
     ]
 
+-- a placement that was settled is credited
+lawful_credit_on : (S : State) (p : Placement) (fate : Fate) → placement_of S.tables p.number ≡ Some p → p.fate ≡ fate → AreLawful S (credit_on S.moment p.number fate)
+lawful_credit_on S p Open found is = tt
+lawful_credit_on S p (Settled at) found is = (subst (IsOnward S.moment (Credited at S.moment)) (sym found) is, tt)
+lawful_credit_on S p (Credited settled credited) found is = tt
+
+lawful_credit : (S : State) (placement : ℕ) (found : Option Placement) → placement_of S.tables placement ≡ found → AreLawful S (credit_of S.moment found)
+lawful_credit S placement None is = tt
+lawful_credit S placement (Some p) is =
+    let number = eqb-true p.number placement (found_test (λ (x : Placement). x.number == placement) S.tables.placements p is) in
+    lawful_credit_on S p p.fate (subst (λ n. placement_of S.tables n ≡ Some p) (sym number) is) refl
+
 -- ads that can be paid: their lines are there, and their bids are free
 record IsPaid (S R : State) (entered : List AdValue) (a : AdValue) : Type 0 where
   price_below : price S.settings.reserve S.settings.floor entered a ≤ a.bid
@@ -285,7 +310,7 @@ lawful_placed S R entered number [] h moment next apart paid = tt
 lawful_placed S R entered number (a ∷ ads) h moment next apart paid =
     let p : Placement = placed S entered number a in
     let pays = paid a (inl refl) in
-    let payable : IsPayable R p = record { next = next; unclicked = refl; line = pays.line; fits = omega (arith, pays.price_below, pays.fits) } in
+    let payable : IsPayable R p = record { next = next; unclicked = refl; line = pays.line; fits = omega (arith, pays.price_below, pays.fits); past = omega (arith, moment) } in
     let longer : length (put_row placement_key p R.tables.placements) ≡ length R.tables.placements + 1 =
     ap length (next_last placement_key (λ (x : Placement). x.number) p R.tables.placements (λ x. refl) h.numbered.placements next) ∙ length-append R.tables.placements (p ∷ []) in (
       payable,
@@ -311,13 +336,24 @@ lawful_search S text places h =
 
 pub lawful_call : (S : State) (call : Call) → IsSound S → judged S call ≡ None → AreLawful S (changes S call)
 unfolding changes refusals
-lawful_call S (AddAccount key) h accepts = lawful_account S key h
+lawful_call S (AddAccount key) h accepts =
+    let none = none_holds (refusals S (AddAccount key)) accepts in
+    lawful_account S key h (room_below (length S.tables.accounts) ACCOUNTS_MAX (not_when _ _ none.1.0))
 lawful_call S (SetQuality account line quality) h accepts =
     let none = none_holds (refusals S (SetQuality account line quality)) accepts in
     let within = quality_in quality (from_not (is_within QUALITY_MIN QUALITY_MAX quality) (not_when _ _ none.1.1.0)) in
     lawful_line_found S account line (λ l. record l { quality = quality }) (line_of S.tables account line) refl h (λ l. refl) (λ l k. (k.0, within)) (λ l. refl)
 lawful_call S (Suspend account suspended) h accepts = lawful_suspended S account suspended (account_of S.tables account) refl
-lawful_call S (AddCampaign account key budget) h accepts = lawful_campaign S account budget h
+lawful_call S (Credit placement) h accepts = lawful_credit S placement (placement_of S.tables placement) refl
+lawful_call S (AddCampaign account key budget) h accepts =
+    let none = none_holds (refusals S (AddCampaign account key budget)) accepts in
+    lawful_campaign S account budget h (amount_in budget (from_not (is_within BUDGET_MIN BUDGET_MAX budget) (not_when _ _ none.1.1.0)))
+    (room_below (campaigns_of S.tables account) CAMPAIGNS_MAX (not_when _ _ none.1.1.1.0))
+lawful_call S (SetBudget account key campaign amount) h accepts =
+    let none = none_holds (refusals S (SetBudget account key campaign amount)) accepts in
+    lawful_set S account campaign amount h (some_from (campaign_of S.tables account campaign) (not_when _ _ none.1.1.0))
+    (amount_in amount (from_not (is_within BUDGET_MIN BUDGET_MAX amount) (not_when _ _ none.1.1.1.0)))
+    (room_up_to (used_today S account campaign) amount (not_when _ _ none.1.1.1.1.0))
 lawful_call S (AddLine account key campaign bid pattern headline link) h accepts =
     let asked : AskedLine = record { campaign = campaign; bid = bid; pattern = pattern; headline = headline; link = link } in
     let none = none_holds (refusals S (AddLine account key campaign bid pattern headline link)) accepts in
@@ -335,3 +371,4 @@ lawful_call S (Import account key batch rows) h accepts =
     lawful_import S account batch rows (batch_of S.tables account batch) refl h none.1.1.1
 lawful_call S (Search text places) h accepts = lawful_search S text places h
 lawful_call S (Click placement) h accepts = lawful_click S placement (placement_of S.tables placement) refl h
+lawful_call S call h accepts = tt

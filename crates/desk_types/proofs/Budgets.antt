@@ -15,7 +15,7 @@ use Rattle.desk_types.proofs.EachRow.{Each, find-none}
 use Rattle.desk_types.proofs.Puts.{Ordered, put_new, put_there, same_key}
 
 -- the last setting of the campaign up to the day
-abbrev last_set : ℕ → ℕ → ℕ → List BudgetSet → Option BudgetSet
+abbrev pub last_set : ℕ → ℕ → ℕ → List BudgetSet → Option BudgetSet
 last_set a c d [] = None
 last_set a c d (b ∷ bs) = cond (is_set_by a c d b) (option_or (last_set a c d bs) (Some b)) (last_set a c d bs)
 
@@ -24,7 +24,7 @@ abbrev is_later : ℕ → ℕ → ℕ → BudgetSet → BudgetSet → Bool
 is_later a c d b other = is_set_by a c d other && nat_lt (day_of b.at) (day_of other.at)
 
 -- of two settings of one campaign, the one behind is of a later day
-later_day : (ba bc bd oa oc od a c d : ℕ) → is_less_key (ba ∷ bc ∷ bd ∷ []) (oa ∷ oc ∷ od ∷ []) ≡ true
+pub later_day : (ba bc bd oa oc od a c d : ℕ) → is_less_key (ba ∷ bc ∷ bd ∷ []) (oa ∷ oc ∷ od ∷ []) ≡ true
     → (ba == a && (bc == c && nat_le bd d)) ≡ true → (oa == a && (oc == c && nat_le od d)) ≡ true → nat_lt bd od ≡ true
 later_day ba bc bd oa oc od a c d less h k = grind (arith, nat_tests)
 

@@ -1,16 +1,11 @@
 -- Clicks on a placement that was clicked, or whose deadline has passed.
-use Rattle.std.proofs.Common.{◌≡◌, ℕ, ◌+◌, ◌≤◌, max, min, true, false, ◌==◌, ◌&&◌, inl, inr, List, [], ◌∷◌, find, Option, None, Some, is_some, is_none, option_map, unwrap_or, refl, sym, ap, subst, ◌∙◌, arith}
+use Rattle.std.proofs.Common.{◌≡◌, ℕ, ◌+◌, ◌≤◌, ◌⊎◌, max, min, true, false, ◌==◌, ◌&&◌, inl, inr, List, [], ◌∷◌, find, Option, None, Some, is_some, is_none, option_map, unwrap_or, refl, sym, ap, subst, ◌∙◌, arith}
 use Rattle.std.specs.Prelude.{nat_lt}
-use Rattle.std.proofs.lemmas.Bool.{cases_Bool, cond-true, cond-false, both_ways, and_parts, eqb-true, false_from_ne_true}
+use Rattle.std.proofs.lemmas.Bool.{cases_Bool, cond-true, cond-false, both_ways, and_parts, false_from_ne_true}
 use Rattle.std.proofs.lemmas.Bool.Decides.{nat_tests}
-use Rattle.std.proofs.lemmas.Option.{same_Some}
 use Rattle.desk_types.specs.declared.limits.TheConstants.{MOMENT_MAX}
-use Rattle.desk_types.specs.declared.call.Call.{Call}
 use Rattle.desk_types.specs.declared.call.Call.TheVariants.{Click}
 use Rattle.desk_types.specs.declared.entry.Entry.{Entry}
-use Rattle.desk_types.specs.declared.entry.Outcome.{Outcome}
-use Rattle.desk_types.specs.declared.entry.Outcome.TheVariants.{Answered, Faulted}
-use Rattle.desk_types.specs.declared.refusal.Refusal.{Refusal}
 use Rattle.desk_types.specs.declared.refusal.Refusal.TheVariants.{NoPlacement}
 use Rattle.desk_types.specs.declared.reply.Reply.TheVariants.{Went, Refused}
 use Rattle.desk_types.specs.declared.rows.Fate.{Fate}
@@ -18,25 +13,25 @@ use Rattle.desk_types.specs.declared.rows.Fate.TheVariants.{Open, Settled, Credi
 use Rattle.desk_types.specs.declared.rows.Line.{Line}
 use Rattle.desk_types.specs.declared.rows.Placement.{Placement}
 use Rattle.desk_types.specs.declared.tables.Change.{Change}
-use Rattle.desk_types.specs.declared.tables.Change.TheVariants.{PutAccount, PutCampaign, PutBudget, PutLine, PutNegative, PutPlacement, PutBatch, PutFate}
+use Rattle.desk_types.specs.declared.tables.Change.TheVariants.{PutLine, PutFate}
 use Rattle.desk_types.specs.declared.tables.Tables.{Tables}
 use Rattle.desk_types.specs.Changes.{changes, link_clicked, link_of, raises_edition, reply, settlement}
 use Rattle.desk_types.specs.Judged.{first, judged, refusals, when}
 use Rattle.desk_types.specs.Keys.{is_same_key, line_key, placement_key}
 use Rattle.desk_types.specs.LedgerLaws.{ChangesNoRow}
 use Rattle.desk_types.specs.Money.{is_escrowed, is_open}
-use Rattle.desk_types.specs.Run.{after, run}
+use Rattle.desk_types.specs.Run.{run}
 use Rattle.desk_types.specs.Sound.{IsSound}
 use Rattle.desk_types.specs.State.{State}
 use Rattle.desk_types.specs.Step.{accepted, answered, at_moment, step}
-use Rattle.desk_types.specs.Tables.{has_key, line_of, placement_of, put, put_all, put_fate}
-use Rattle.desk_types.proofs.Accepting.{lawful_call}
+use Rattle.desk_types.specs.Tables.{line_of, placement_of, put, put_all, put_fate}
 use Rattle.desk_types.proofs.Costs.{escrowed_before}
-use Rattle.desk_types.proofs.Histories.{sound_after, sound_step}
-use Rattle.desk_types.proofs.Lawful.{AreLawful, GoesOnward, IsGoodLine, IsLawful, IsOnward, changed, finds_one, finds_two, found_all}
-use Rattle.desk_types.proofs.Numbering.{next_new}
-use Rattle.desk_types.proofs.Puts.{FindsKey, find-put, find-put_same, has-find, same_key}
-use Rattle.desk_types.proofs.Sound.{sound_later, sound_put}
+use Rattle.desk_types.proofs.Histories.{sound_step}
+use Rattle.desk_types.proofs.Lasting.{Lasts, lasts_run}
+use Rattle.desk_types.proofs.Lawful.{GoesOnward, IsGoodLine, IsLawful, changed, finds_one, finds_two, found_all}
+use Rattle.desk_types.proofs.Placements.{has_number, remains_put}
+use Rattle.desk_types.proofs.Puts.{FindsKey, find-put, find-put_same, same_key}
+use Rattle.desk_types.proofs.Sound.{sound_later}
 
 -- a click on a placement that is there is accepted
 click_accepted : (S : State) (n : ℕ) (p : Placement) → placement_of S.tables n ≡ Some p → judged S (Click n) ≡ None
@@ -111,19 +106,6 @@ done_again S moment n link h =
 key_parts : (a b x y : ℕ) → a ∷ b ∷ [] ≡ x ∷ y ∷ [] → (a ≡ x) × (b ≡ y)
 key_parts a b x y e = (cc, cc)
 
-one_part : (a x : ℕ) → a ∷ [] ≡ x ∷ [] → a ≡ x
-one_part a x e = cc
-
-passes_test : (rows : List Placement) (q : Placement) (number : ℕ) → find (λ (x : Placement). x.number == number) rows ≡ Some q → q.number ≡ number
-passes_test [] q number is = absurd cc
-passes_test (r ∷ rows) q number is =
-    elim (cases_Bool (r.number == number)) [
-      | inl t ↦
-          let e : r ≡ q = same_Some r q (sym (cond-true (r.number == number) (Some r) (find (λ (x : Placement). x.number == number) rows) t) ∙ is) in
-          sym (ap (λ (x : Placement). x.number) e) ∙ eqb-true r.number number t
-      | inr t ↦ passes_test rows q number (sym (cond-false (r.number == number) (Some r) (find (λ (x : Placement). x.number == number) rows) t) ∙ is)
-    ]
-
 -- a line that takes the place of one keeps its link
 record HasLink (S : State) (account line : ℕ) (link : List ℕ) : Type 0 where
   row : Line
@@ -144,108 +126,45 @@ line_put S l account line link good h =
       | inr t ↦ record { row = h.row; is = now ∙ cond-false _ (Some l) (line_of S.tables account line) t ∙ h.is; same = h.same }
     ]
 
+link_fate : (S : State) (fate : Fate) (found : Option Placement) (account line : ℕ) (link : List ℕ) → HasLink S account line link → HasLink (record S { tables = put_fate S.tables fate found }) account line link
+link_fate S fate None account line link h = record { row = h.row; is = h.is; same = h.same }
+link_fate S fate (Some p) account line link h = record { row = h.row; is = h.is; same = h.same }
+
+link_put : (S : State) (change : Change) (account line : ℕ) (link : List ℕ) → IsLawful S change → HasLink S account line link → HasLink (changed S change) account line link
+unfolding put
+link_put S (PutLine l) account line link lawful h = line_put S l account line link lawful h
+link_put S (PutFate number fate) account line link lawful h = link_fate S fate (placement_of S.tables number) account line link h
+link_put S change account line link lawful h = record { row = h.row; is = h.is; same = h.same }
+
 -- the fate of a placement that is put
 is_over : (moment : ℕ) (p : Placement) (fate : Fate) → GoesOnward moment p fate → is_escrowed moment (record p { fate = fate }) ≡ false
 is_over moment p Open h = absurd (elim h [ ])
 is_over moment p (Settled at) h = refl
 is_over moment p (Credited settled at) h = refl
 
-done_fate : (S : State) (number : ℕ) (fate : Fate) (known : Option Placement) (n : ℕ) (link : List ℕ) → placement_of S.tables number ≡ known → IsOnward S.moment fate known → IsDone S n link
-    → IsDone (record S { tables = put_fate S.tables fate known }) n link
-done_fate S number fate None n link is onward h = record { p = h.p; found = h.found; over = h.over; line = h.line; line_is = h.line_is; link_is = h.link_is }
-done_fate S number fate (Some q) n link is onward h =
-    let r : Placement = record q { fate = fate } in
-    let test = λ (x : Placement). x.number == n in
-    let now = find-put placement_key (n ∷ []) r test S.tables.placements (finds_one placement_key (λ (x : Placement). x.number) n (λ x. refl)) in
-    elim (cases_Bool (is_same_key (placement_key r) (n ∷ []))) [
-      | inl t ↦
-          let same : q.number ≡ n = one_part q.number n (same_key (placement_key r) (n ∷ []) t) in
-          let by : q.number ≡ number = passes_test S.tables.placements q number is in
-          let known : placement_of S.tables n ≡ Some q = subst (λ m. placement_of S.tables m ≡ Some q) (sym by ∙ same) is in
-          let e : q ≡ h.p = same_Some q h.p (sym known ∙ h.found) in
-          record {
-            p = r;
-            found = now ∙ cond-true _ (Some r) (placement_of S.tables n) t;
-            over = is_over S.moment q fate onward;
-            line = h.line;
-            line_is = (λ i. line_of S.tables (e i).account (e i).line) ∙ h.line_is;
-            link_is = h.link_is;
-          }
-      | inr t ↦ record {
-        p = h.p;
-        found = now ∙ cond-false _ (Some r) (placement_of S.tables n) t ∙ h.found;
-        over = h.over;
-        line = h.line;
-        line_is = h.line_is;
-        link_is = h.link_is;
-      }
-    ]
-
-done_shown : (S : State) (q : Placement) (n : ℕ) (link : List ℕ) → has_key placement_key (placement_key q) S.tables.placements ≡ false → IsDone S n link → IsDone (changed S (PutPlacement q)) n link
-unfolding put
-done_shown S q n link new h =
-    let test = λ (x : Placement). x.number == n in
-    let finds = finds_one placement_key (λ (x : Placement). x.number) n (λ x. refl) in
-    let now = find-put placement_key (n ∷ []) q test S.tables.placements finds in
-    let there : has_key placement_key (n ∷ []) S.tables.placements ≡ true = has-find placement_key (n ∷ []) test S.tables.placements finds ∙ ap is_some h.found in
-    elim (cases_Bool (is_same_key (placement_key q) (n ∷ []))) [
-      | inl t ↦ absurd (both_ways _ new (subst (λ k. has_key placement_key k S.tables.placements ≡ true) (sym (same_key (placement_key q) (n ∷ []) t)) there))
-      | inr t ↦ record {
-        p = h.p;
-        found = now ∙ cond-false _ (Some q) (placement_of S.tables n) t ∙ h.found;
-        over = h.over;
-        line = h.line;
-        line_is = h.line_is;
-        link_is = h.link_is;
-      }
-    ]
-
-as_before : (S T : State) (n : ℕ) (link : List ℕ) → T.moment ≡ S.moment → T.tables.placements ≡ S.tables.placements → T.tables.lines ≡ S.tables.lines → IsDone S n link → IsDone T n link
-as_before S T n link moment placements lines h = record {
-  p = h.p;
-  found = ap (find (λ (p : Placement). p.number == n)) placements ∙ h.found;
-  over = ap (λ m. is_escrowed m h.p) moment ∙ h.over;
-  line = h.line;
-  line_is = ap (find (λ (l : Line). l.account == h.p.account && l.number == h.p.line)) lines ∙ h.line_is;
-  link_is = h.link_is;
-}
+still_over : (moment : ℕ) (p : Placement) (now : Fate) → (now ≡ p.fate) ⊎ GoesOnward moment p now → is_escrowed moment p ≡ false → is_escrowed moment (record p { fate = now }) ≡ false
+still_over moment p now (inl same) over = ap (λ f. is_escrowed moment (record p { fate = f })) same ∙ over
+still_over moment p now (inr onward) over = is_over moment p now onward
 
 done_put : (S : State) (change : Change) (n : ℕ) (link : List ℕ) → IsSound S → IsLawful S change → IsDone S n link → IsDone (changed S change) n link
-unfolding put
-done_put S (PutAccount a) n link sound lawful h = as_before S _ n link refl refl refl h
-done_put S (PutCampaign c) n link sound lawful h = as_before S _ n link refl refl refl h
-done_put S (PutBudget b) n link sound lawful h = as_before S _ n link refl refl refl h
-done_put S (PutLine l) n link sound lawful h =
-    let has = line_put S l h.p.account h.p.line link lawful (record { row = h.line; is = h.line_is; same = h.link_is }) in
-    record { p = h.p; found = h.found; over = h.over; line = has.row; line_is = has.is; link_is = has.same }
-done_put S (PutNegative m) n link sound lawful h = as_before S _ n link refl refl refl h
-done_put S (PutPlacement q) n link sound lawful h =
-    done_shown S q n link (next_new placement_key (λ (x : Placement). x.number) q S.tables.placements (λ x. refl) sound.numbered.placements lawful.next) h
-done_put S (PutBatch b) n link sound lawful h = as_before S _ n link refl refl refl h
-done_put S (PutFate number fate) n link sound lawful h = done_fate S number fate (placement_of S.tables number) n link refl lawful h
+done_put S change n link sound lawful h =
+    let stays = remains_put S change n h.p sound lawful h.found in
+    let has = link_put S change h.p.account h.p.line link lawful (record { row = h.line; is = h.line_is; same = h.link_is }) in
+    record {
+      p = record h.p { fate = stays.now };
+      found = stays.found;
+      over = still_over S.moment h.p stays.now stays.goes h.over;
+      line = has.row;
+      line_is = has.is;
+      link_is = has.same;
+    }
 
-done_put_all : (S : State) (changes : List Change) (n : ℕ) (link : List ℕ) → IsSound S → AreLawful S changes → IsDone S n link → IsDone (record S { tables = put_all S.tables changes }) n link
-unfolding put_all
-done_put_all S [] n link sound lawful h = h
-done_put_all S (c ∷ cs) n link sound lawful h = done_put_all (changed S c) cs n link (sound_put S c sound lawful.0) lawful.1 (done_put S c n link sound lawful.0 h)
-
-done_answered : (S : State) (call : Call) (judgement : Option Refusal) (n : ℕ) (link : List ℕ) → IsSound S → judged S call ≡ judgement → IsDone S n link → IsDone (answered S call judgement).state n link
-unfolding accepted
-done_answered S call (Some refusal) n link sound is h = h
-done_answered S call None n link sound is h =
-    as_before (record S { tables = put_all S.tables (changes S call) }) _ n link refl refl refl (done_put_all S (changes S call) n link sound (lawful_call S call sound is) h)
-
-done_after : (S : State) (moment : ℕ) (call : Call) (outcome : Outcome) (n : ℕ) (link : List ℕ) → IsSound S → IsDone S n link → IsDone (after S moment call outcome) n link
-unfolding step
-done_after S moment call Answered n link sound h =
-    done_answered (at_moment S moment) call (judged (at_moment S moment) call) n link (sound_later S moment sound) refl (done_later S moment n link h)
-done_after S moment call (Faulted before count) n link sound h = h
-
-done_run : (S : State) (entries : List Entry) (n : ℕ) (link : List ℕ) → IsSound S → IsDone S n link → IsDone (run S entries) n link
-unfolding run
-done_run S [] n link sound h = h
-done_run S (e ∷ entries) n link sound h =
-    done_run (after S e.moment e.call e.outcome) entries n link (sound_after S e.moment e.call e.outcome sound) (done_after S e.moment e.call e.outcome n link sound h)
+done_lasts : (n : ℕ) (link : List ℕ) → Lasts (λ S. IsDone S n link)
+done_lasts n link = record {
+  put = λ S change sound lawful h. done_put S change n link sound lawful h;
+  later = λ S moment h. done_later S moment n link h;
+  edition = λ S edition h. record { p = h.p; found = h.found; over = h.over; line = h.line; line_is = h.line_is; link_is = h.link_is };
+}
 
 some_of : {A : Type 0} (o : Option A) → is_some o ≡ true → (x : A) × (o ≡ Some x)
 some_of None h = absurd cc
@@ -286,7 +205,7 @@ clicked_over S n p is =
     elim (cases_Bool (is_escrowed S.moment p)) [
       | inl t ↦
           let q : Placement = record p { fate = Settled S.moment } in
-          let same : p.number ≡ n = passes_test S.tables.placements p n is in
+          let same : p.number ≡ n = has_number S.tables n p is in
           let one : T.tables ≡ put_fate S.tables (Settled S.moment) (placement_of S.tables p.number) =
           settled ∙ ap (put_all S.tables) (cond-true _ (PutFate p.number (Settled S.moment) ∷ []) [] t) in
           let rows : T.tables ≡ put_fate S.tables (Settled S.moment) (Some p) =
@@ -352,7 +271,7 @@ later_answered S between second n link sound h after =
     let went = went_there S n (placement_of S.tables n) link refl h in
     let T : State = (answered S (Click n) (judged S (Click n))).state in
     let start = start_done S T n link sound (over_step S n went.p went.found) went.goes in
-    done_again (run T between) second n link (done_run T between n link after start)
+    done_again (run T between) second n link (lasts_run (λ U. IsDone U n link) T between (done_lasts n link) after start)
 
 pub later : (S : State) (between : List Entry) (first second n : ℕ) (link : List ℕ) → IsSound S → (step S first (Click n)).reply ≡ Went link → ChangesNoRow (run (step S first (Click n)).state between) second n link
 unfolding step

@@ -24,7 +24,7 @@ escrowed_before first second p low h =
     let earlier : nat_lt first p.deadline ≡ true = grind (arith, nat_tests, parts.1, low) in
     and_from (is_open p.fate) (nat_lt first p.deadline) parts.0 earlier
 
-sum_by-filter : {A : Type 0} (p : A → Bool) (f : A → ℕ) (xs : List A) → sum_by f (filter p xs) ≡ sum_by (λ x. cond (p x) (f x) 0) xs
+pub sum_by-filter : {A : Type 0} (p : A → Bool) (f : A → ℕ) (xs : List A) → sum_by f (filter p xs) ≡ sum_by (λ x. cond (p x) (f x) 0) xs
 sum_by-filter p f [] = refl
 sum_by-filter p f (x ∷ xs) =
     elim (cases_Bool (p x)) [
@@ -34,7 +34,7 @@ sum_by-filter p f (x ∷ xs) =
           ∙ (omega arith) ∙ (λ i. sym (cond-false (p x) (f x) 0 t) i + sum_by (λ y. cond (p y) (f y) 0) xs) ∙ sym (sum_by-cons (λ y. cond (p y) (f y) 0) x xs)
     ]
 
-sum_by-plus : {A : Type 0} (f g : A → ℕ) (xs : List A) → sum_by f xs + sum_by g xs ≡ sum_by (λ x. f x + g x) xs
+pub sum_by-plus : {A : Type 0} (f g : A → ℕ) (xs : List A) → sum_by f xs + sum_by g xs ≡ sum_by (λ x. f x + g x) xs
 sum_by-plus f g [] = refl
 sum_by-plus f g (x ∷ xs) = omega (arith, sum_by-cons f x xs, sum_by-cons g x xs, sum_by-cons (λ y. f y + g y) x xs, sum_by-plus f g xs)
 

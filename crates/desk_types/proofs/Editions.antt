@@ -2,7 +2,7 @@
 use Rattle.std.proofs.Common.{◌≡◌, ℕ, ◌+◌, ◌≤◌, true, false, if◌then◌else◌, inl, inr, Option, None, Some, is_none, List, [], ◌∷◌, ◌++◌, map, refl, sym, ap, ◌∙◌, arith}
 use Rattle.std.proofs.lemmas.Bool.{cases_Bool}
 use Rattle.desk_types.specs.declared.call.Call.{Call}
-use Rattle.desk_types.specs.declared.call.Call.TheVariants.{AddAccount, SetQuality, Suspend, AddCampaign, AddLine, SetBid, Pause, AddNegative, DropNegative, Import, Search, Click}
+use Rattle.desk_types.specs.declared.call.Call.TheVariants.{Credit, HostReport, SetBudget, Import, Report, Shown, Search, Click}
 use Rattle.desk_types.specs.declared.call.ImportRow.{ImportRow}
 use Rattle.desk_types.specs.declared.entry.Entry.{Entry}
 use Rattle.desk_types.specs.declared.entry.Outcome.{Outcome}
@@ -10,12 +10,12 @@ use Rattle.desk_types.specs.declared.entry.Outcome.TheVariants.{Answered, Faulte
 use Rattle.desk_types.specs.declared.refusal.Refusal.{Refusal}
 use Rattle.desk_types.specs.declared.rows.Batch.{Batch}
 use Rattle.desk_types.specs.declared.rows.Fate.{Fate}
-use Rattle.desk_types.specs.declared.rows.Fate.TheVariants.{Settled}
+use Rattle.desk_types.specs.declared.rows.Fate.TheVariants.{Open, Settled, Credited}
 use Rattle.desk_types.specs.declared.rows.Placement.{Placement}
 use Rattle.desk_types.specs.declared.tables.Change.{Change}
 use Rattle.desk_types.specs.declared.tables.Change.TheVariants.{PutAccount, PutCampaign, PutBudget, PutLine, PutNegative, PutPlacement, PutBatch, PutFate}
 use Rattle.desk_types.specs.declared.tables.Tables.{Tables}
-use Rattle.desk_types.specs.Changes.{changes, import_of, placements_for, raises_edition, settlement}
+use Rattle.desk_types.specs.Changes.{changes, credit_of, credit_on, import_of, placements_for, raises_edition, settlement}
 use Rattle.desk_types.specs.Judged.{judged}
 use Rattle.desk_types.specs.Money.{is_escrowed}
 use Rattle.desk_types.specs.Run.{after, run}
@@ -82,6 +82,15 @@ money_settled moment None = tt
 money_settled moment (Some p) =
     elim (is_escrowed moment p) as (λ b. Each IsOfMoney (if b then PutFate p.number (Settled moment) ∷ [] else [])) [ true ↦ (tt, tt) | false ↦ tt ]
 
+money_credited_on : (moment number : ℕ) (fate : Fate) → Each IsOfMoney (credit_on moment number fate)
+money_credited_on moment number Open = tt
+money_credited_on moment number (Settled at) = (tt, tt)
+money_credited_on moment number (Credited settled credited) = tt
+
+money_credited : (moment : ℕ) (found : Option Placement) → Each IsOfMoney (credit_of moment found)
+money_credited moment None = tt
+money_credited moment (Some p) = money_credited_on moment p.number p.fate
+
 -- an import of a batch that is there changes nothing
 money_imported : (T : Tables) (account number : ℕ) (rows : List ImportRow) (found : Option Batch) → is_none found ≡ false → Each IsOfMoney (import_of T account number rows found)
 money_imported T account number rows (Some b) h = tt
@@ -90,18 +99,15 @@ money_imported T account number rows None h = absurd cc
 -- a call with which the edition stays changes money alone
 money_alone : (S : State) (call : Call) → raises_edition S call ≡ false → Each IsOfMoney (changes S call)
 unfolding changes raises_edition
-money_alone S (AddAccount key) h = absurd cc
-money_alone S (SetQuality account line quality) h = absurd cc
-money_alone S (Suspend account suspended) h = absurd cc
-money_alone S (AddCampaign account key budget) h = absurd cc
-money_alone S (AddLine account key campaign bid pattern headline link) h = absurd cc
-money_alone S (SetBid account key line bid) h = absurd cc
-money_alone S (Pause account key part on) h = absurd cc
-money_alone S (AddNegative account key campaign pattern) h = absurd cc
-money_alone S (DropNegative account key negative) h = absurd cc
+money_alone S (Credit placement) h = money_credited S.moment (placement_of S.tables placement)
+money_alone S (HostReport day) h = tt
+money_alone S (SetBudget account key campaign amount) h = (tt, tt)
 money_alone S (Import account key batch rows) h = money_imported S.tables account batch rows (batch_of S.tables account batch) h
+money_alone S (Report account key day) h = tt
+money_alone S (Shown account key day from) h = tt
 money_alone S (Search text places) h = money_shown (placements_for S text places)
 money_alone S (Click placement) h = money_settled S.moment (placement_of S.tables placement)
+money_alone S call h = absurd cc
 
 Keeps-accepted : (S : State) (call : Call) → Keeps S (accepted S call)
 unfolding accepted

@@ -1,6 +1,6 @@
 -- Worked examples of the ledger, computed.
 use Rattle.std.proofs.Common.{◌≡◌, ℕ, true, false, map, List, [], ◌∷◌, ◌++◌, None, refl}
-use Rattle.std.specs.Prelude.{codes, pos}
+use Rattle.std.specs.Prelude.{codes, pos, ◌-ℤ◌, ◌^◌}
 use lib.Utf8.{encode}
 use Rattle.std.specs.Str.{chars}
 use Rattle.caseless.proofs.Computing.{caseless}
@@ -10,14 +10,20 @@ use Rattle.match_types.specs.Marks.{trimmed}
 use Rattle.match_types.specs.Pattern.{refusal}
 use Rattle.match_types.specs.Tests.{meets, is_same_pattern}
 use Rattle.desk_types.specs.declared.call.Call.{Call}
-use Rattle.desk_types.specs.declared.call.Call.TheVariants.{AddAccount, SetQuality, Suspend, AddCampaign, AddLine, SetBid, Pause, AddNegative, DropNegative, Import, Search, Click}
+use Rattle.desk_types.specs.declared.call.Call.TheVariants.{AddAccount, SetQuality, Suspend, Credit, HostReport, AddCampaign, SetBudget, AddLine, SetBid, Pause, AddNegative, DropNegative, Import, Report, Shown, Search, Click}
 use Rattle.desk_types.specs.declared.call.ImportRow.{ImportRow}
 use Rattle.desk_types.specs.declared.call.Part.TheVariants.{OfCampaign, OfLine}
 use Rattle.desk_types.specs.declared.refusal.Refusal.TheVariants as refused
 use Rattle.desk_types.specs.declared.refusal.Field.TheVariants as field
 use Rattle.desk_types.specs.declared.reply.Reply.{Reply}
-use Rattle.desk_types.specs.declared.reply.Reply.TheVariants.{Made, Done, Imported, Page, Went, Refused}
+use Rattle.desk_types.specs.declared.reply.Reply.TheVariants.{Made, Done, Credited, HostDay, Imported, Day, ShownRows, Page, Went, Refused}
+use Rattle.desk_types.specs.declared.reply.CampaignDay.{CampaignDay}
+use Rattle.desk_types.specs.declared.reply.ShownFate.TheVariants as told
+use Rattle.desk_types.specs.declared.reply.ShownFate.{ShownFate}
+use Rattle.desk_types.specs.declared.reply.ShownRow.{ShownRow}
 use Rattle.desk_types.specs.declared.reply.Spot.{Spot}
+use Rattle.desk_types.specs.declared.rows.Fate.TheVariants.{Settled}
+use Rattle.desk_types.specs.declared.rows.Placement.{Placement}
 use Rattle.desk_types.specs.Changes.{changes, raises_edition, reply}
 use Rattle.desk_types.specs.Eligible.{is_candidate}
 use Rattle.desk_types.specs.Fields.{is_key, is_headline, is_link}
@@ -26,10 +32,11 @@ use Rattle.desk_types.specs.Money.{budget, escrowed, spent, free}
 use Rattle.auction_types.specs.Order.{better, wins_tie, has_smaller_triple}
 use Rattle.auction_types.specs.Page.{entrants, distinct, is_best_of_account, place, at_place, page}
 use Rattle.auction_types.specs.Price.{price, first_passing, is_enough, keeps_place, with_bid_of}
+use Rattle.desk_types.specs.Reports.{campaign_day}
 use Rattle.desk_types.specs.SettingsValue.{usual}
 use Rattle.desk_types.specs.State.{State, empty}
 use Rattle.desk_types.specs.Step.{accepted, step}
-use Rattle.desk_types.specs.Tables.{put, put_all, put_row}
+use Rattle.desk_types.specs.Tables.{no_rows, put, put_all, put_row}
 
 -- the replies to calls with their moments, one after another
 replies : State → List (ℕ × Call) → List Reply
@@ -38,7 +45,7 @@ replies S (call ∷ calls) = let a = step S call.0 call.1 in a.reply ∷ replies
 
 -- everything that is computed
 everything : Unit {0}
-unfolding caseless unicode_normalization encode chars words_of trimmed refusal meets is_same_pattern is_candidate is_key is_headline is_link refusals budget escrowed spent better wins_tie has_smaller_triple entrants distinct is_best_of_account place at_place page price first_passing is_enough keeps_place with_bid_of accepted changes reply raises_edition put put_all put_row step replies
+unfolding caseless unicode_normalization encode chars words_of trimmed refusal meets is_same_pattern is_candidate is_key is_headline is_link refusals budget escrowed spent better wins_tie has_smaller_triple entrants distinct is_best_of_account place at_place page price first_passing is_enough keeps_place with_bid_of accepted changes reply raises_edition put put_all put_row step replies campaign_day
 everything = tt
 
 secret : List ℕ
@@ -145,3 +152,41 @@ imported_once : replies (empty usual) (with_budget 1000 ++ import (asks 20 (code
     ≡ Made 1 ∷ Made 1 ∷ Made 1 ∷ Refused (refused.BadRow 2 7) ∷ Refused (refused.BadRow 3 9) ∷ Imported 2 3 ∷ Imported 2 3 ∷ []
 unfolding everything secret link with_budget asks import
 imported_once = refl
+
+-- the numbers of a campaign on a day
+numbers : ℕ → ℕ → ℕ → ℕ → ℕ → ℕ → ℕ → CampaignDay
+numbers budget shown clicks spent escrowed free credited =
+    record { campaign = 1; budget = budget; shown = shown; clicks = clicks; spent = spent; escrowed = escrowed; free = free; credited = credited }
+
+row : ℕ → ShownFate → ShownRow
+row number fate = record { placement = number; campaign = 1; line = 1; place = 1; price = 5; shown = 100; fate = fate }
+
+-- a click that is credited goes to the statement, and the day's budget stays spent; what was not clicked in time has expired
+credited_once : replies (left (empty usual) three_shown) ((1900, Credit 2) ∷ (1900, Credit 9) ∷ (1900, Credit 1) ∷ (1900, Credit 1) ∷ (1900, Report 1 secret 0) ∷ (50, Shown 1 secret 0 1) ∷ (50, Shown 1 secret 0 3) ∷ [])
+    ≡ Refused refused.NotSettled ∷ Refused refused.NoPlacement ∷ Credited 5 ∷ Credited 5 ∷ Day (record { day = 0; rows = numbers 1000 3 1 5 0 995 5 ∷ [] })
+    ∷ ShownRows (row 1 (told.Credited 1899 1900) ∷ row 2 told.Expired ∷ row 3 told.Expired ∷ []) ∷ ShownRows (row 3 told.Expired ∷ []) ∷ []
+unfolding everything secret link with_budget three_shown left numbers row
+credited_once = refl
+
+-- a placement is in the report of the day on which it was shown
+reports_by_day : replies (left (empty usual) over_midnight) ((86405, Report 1 secret 0) ∷ (86405, Report 1 secret 1) ∷ (86405, Report 1 secret 2932897) ∷ (86405, HostReport 0) ∷ [])
+    ≡ Day (record { day = 0; rows = numbers 1000 1 1 5 0 995 0 ∷ [] }) ∷ Day (record { day = 1; rows = numbers 1000 0 0 0 0 1000 0 ∷ [] })
+    ∷ Refused (refused.BadField field.Day) ∷ HostDay (record { day = 0; accounts = 1; shown = 1; clicks = 1; spent = 5; escrowed = 0; credited = 0 }) ∷ []
+unfolding everything secret link with_budget over_midnight left numbers
+reports_by_day = refl
+
+-- a budget is not set below what is used of it today, and stands for today and the days after
+budget_set : replies (left (empty usual) three_shown) ((1900, SetBudget 1 secret 1 4) ∷ (1900, SetBudget 1 secret 1 5) ∷ (86400, SetBudget 1 secret 2 9) ∷ (86400, SetBudget 1 secret 1 0) ∷ (86400, SetBudget 1 secret 1 9)
+    ∷ (86401, SetBudget 1 secret 1 8) ∷ (86401, Report 1 secret 0) ∷ (86401, Report 1 secret 1) ∷ (86401, Report 1 secret 2) ∷ [])
+    ≡ Refused (refused.BudgetBelowUsed 5) ∷ Done ∷ Refused refused.NoCampaign ∷ Refused (refused.BadField field.Budget) ∷ Done ∷ Done ∷ Day (record { day = 0; rows = numbers 5 3 1 5 0 0 0 ∷ [] })
+    ∷ Day (record { day = 1; rows = numbers 8 0 0 0 0 8 0 ∷ [] }) ∷ Day (record { day = 2; rows = numbers 8 0 0 0 0 8 0 ∷ [] }) ∷ []
+unfolding everything secret link with_budget three_shown left numbers
+budget_set = refl
+
+settled_at : ℕ → ℕ → Placement
+settled_at number price = record { number = number; account = 1; campaign = 1; line = 1; place = 1; bid = price; price = price; shown = 0; deadline = 1800; fate = Settled 0 }
+
+-- sums have no end
+large_sums : let S = record (empty usual) { tables = record no_rows { placements = settled_at 1 (2 ^ 63) ∷ settled_at 2 (2 ^ 63) ∷ [] } } in (spent S 1 1 0 ≡ 2 ^ 64) × (free S 1 1 0 ≡ (pos 0 -ℤ pos (2 ^ 64)) -ℤ pos 0)
+unfolding everything settled_at
+large_sums = (refl, refl)

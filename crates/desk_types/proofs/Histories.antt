@@ -57,7 +57,7 @@ pub budgets_held : (S : State) (entries : List Entry) (moment : ℕ) → IsSound
 budgets_held S entries moment h = (sound_later (run S entries) moment (sound_run S entries h)).within_budgets
 
 -- the placements of a page are put behind the others
-placements_put : (S : State) (T : Tables) (entered : List AdValue) (number : ℕ) (ads : List AdValue) → RunFromOne (map (λ p. p.number) T.placements) → number ≡ length T.placements + 1
+pub placements_put : (S : State) (T : Tables) (entered : List AdValue) (number : ℕ) (ads : List AdValue) → RunFromOne (map (λ p. p.number) T.placements) → number ≡ length T.placements + 1
     → (put_all T (map PutPlacement (all_placed S entered number ads))).placements ≡ T.placements ++ all_placed S entered number ads
 unfolding put put_all
 placements_put S T entered number [] numbered next = sym (append-nil T.placements)

@@ -58,10 +58,10 @@ before_answer : (o : Outcome) → IsBefore o Answered
 before_answer Answered = tt
 before_answer (Faulted before after) = tt
 
-room_below : (n most : ℕ) → nat_le most n ≡ false → n + 1 ≤ most
+pub room_below : (n most : ℕ) → nat_le most n ≡ false → n + 1 ≤ most
 room_below n most h = grind (arith, nat_tests)
 
-room_up_to : (n most : ℕ) → nat_lt most n ≡ false → n ≤ most
+pub room_up_to : (n most : ℕ) → nat_lt most n ≡ false → n ≤ most
 room_up_to n most h = grind (arith, nat_tests)
 
 -- there is room for the call

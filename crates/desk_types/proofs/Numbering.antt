@@ -1,5 +1,5 @@
 -- Numbers run from 1 without a gap, where a row that is put is there already or has the next number.
-use Rattle.std.proofs.Common.{◌≡◌, ℕ, suc, zero, ◌+◌, ◌<◌, Bool, true, false, ◌==◌, ◌||◌, cond, ◌⊎◌, inl, inr, List, [], ◌∷◌, ◌++◌, filter, length, map, refl, sym, ap, subst, ◌∙◌, arith, length-append}
+use Rattle.std.proofs.Common.{◌≡◌, ℕ, suc, zero, ◌+◌, ◌<◌, ◌≤◌, Bool, true, false, ◌==◌, ◌||◌, cond, ◌⊎◌, inl, inr, List, [], ◌∷◌, ◌++◌, filter, length, map, refl, sym, ap, subst, ◌∙◌, arith, length-append}
 use Rattle.std.specs.List.{count_by, range_with_len}
 use Rattle.std.proofs.lemmas.Bool.{cases_Bool, cond-true, cond-false, both_ways, eqb-true, eq-eqb}
 use Rattle.std.proofs.lemmas.Bool.Decides.{nat_tests}
@@ -10,7 +10,7 @@ use Rattle.desk_types.specs.Sound.{RunFromOne}
 use Rattle.desk_types.specs.Tables.{has_key, inserted, put_row, replaced}
 use Rattle.desk_types.proofs.EachRow.{Each, Each-mono}
 use Rattle.desk_types.proofs.Legality.{range-more}
-use Rattle.desk_types.proofs.Puts.{Ordered, less-asym, less-trans, not-same, put_last, put_new, put_there, same_key}
+use Rattle.desk_types.proofs.Puts.{Ordered, less-asym, less-trans, not-same, put_last, put_new, put_there, same_key, sum-put_new}
 
 map_choice : {A : Type 0} (number : A → ℕ) (b : Bool) (x y : A) (l : List A) → number x ≡ number y → map number (cond b (x ∷ l) l) ≡ map number (cond b (y ∷ l) l)
 map_choice number true x y l e = ap (λ n. n ∷ map number l) e
@@ -201,6 +201,39 @@ groups-put {A} key group number row rows is order runs next =
       | inr t ↦
           subst (RunInGroups group number) (sym (put_new key row rows t))
           (groups_next key group number row rows is order runs (elim next [ inl there ↦ absurd (both_ways _ t there) | inr last ↦ last ]))
+    ]
+
+-- a row that is there, or for which its group has room, keeps each group within a limit
+count_there : {A : Type 0} (key : A → List ℕ) (group number : A → ℕ) (row : A) (rows : List A) → IsKeyOf key group number → has_key key (key row) rows ≡ true
+    → (g : ℕ) → count_by (λ (x : A). group x == g) (put_row key row rows) ≡ count_by (λ (x : A). group x == g) rows
+count_there {A} key group number row rows is there g =
+    let test = λ (x : A). group x == g in
+    let now = filter test (replaced key row rows) in
+    ap (count_by test) (put_there key row rows there) ∙ sym (length-map now number ∙ length_kept test (replaced key row rows))
+    ∙ ap length (filter-replaced key row test number rows (alike_in_group key group number row g is)) ∙ length-map (filter test rows) number ∙ length_kept test rows
+
+count_new : {A : Type 0} (key : A → List ℕ) (group : A → ℕ) (row : A) (rows : List A) (limit : ℕ) → has_key key (key row) rows ≡ false → ((g : ℕ) → count_by (λ (x : A). group x == g) rows ≤ limit)
+    → count_by (λ (x : A). group x == group row) rows + 1 ≤ limit → (g : ℕ) → count_by (λ (x : A). group x == g) (put_row key row rows) ≤ limit
+count_new {A} key group row rows limit new fits more g =
+    let sums = sum-put_new key row (λ (x : A). cond (group x == g) 1 0) rows new in
+    elim (cases_Bool (group row == g)) [
+      | inl t ↦
+          let room : count_by (λ (x : A). group x == g) rows + 1 ≤ limit =
+          subst (λ h. count_by (λ (x : A). group x == h) rows + 1 ≤ limit) (eqb-true (group row) g t) more in
+          omega (arith, sums, cond-true {A = ℕ} (group row == g) 1 0 t, room)
+      | inr t ↦ omega (arith, sums, cond-false {A = ℕ} (group row == g) 1 0 t, fits g)
+    ]
+
+pub groups-within : {A : Type 0} (key : A → List ℕ) (group number : A → ℕ) (row : A) (rows : List A) (limit : ℕ) → IsKeyOf key group number → ((g : ℕ) → count_by (λ (x : A). group x == g) rows ≤ limit)
+    → (has_key key (key row) rows ≡ true) ⊎ (count_by (λ (x : A). group x == group row) rows + 1 ≤ limit) → (g : ℕ) → count_by (λ (x : A). group x == g) (put_row key row rows) ≤ limit
+groups-within key group number row rows limit is fits room g =
+    elim (cases_Bool (has_key key (key row) rows)) [
+      | inl t ↦ omega (arith, count_there key group number row rows is t g, fits g)
+      | inr t ↦
+          elim room [
+            | inl there ↦ absurd (both_ways _ t there)
+            | inr more ↦ count_new key group row rows limit t fits more g
+          ]
     ]
 
 -- the same of a table whose keys are its numbers

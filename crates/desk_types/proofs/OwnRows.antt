@@ -1,10 +1,10 @@
 -- A call that names an account changes no row of another.
-use Rattle.std.proofs.Common.{◌≡◌, ◌≢◌, ℕ, ◌+◌, Bool, true, false, ◌==◌, ◌&&◌, cond, List, [], ◌∷◌, ◌++◌, find, map, Option, None, Some, refl, sym, ap, ◌∙◌, subst, inl, inr}
+use Rattle.std.proofs.Common.{◌≡◌, ◌≢◌, ℕ, Bool, true, false, ◌==◌, ◌&&◌, cond, List, [], ◌∷◌, find, map, Option, None, Some, refl, sym, ap, ◌∙◌, subst, inl, inr}
 use Rattle.std.specs.List.{filter}
 use Rattle.std.proofs.lemmas.Bool.{cases_Bool, cond-true, cond-false, and_parts, eqb-true, ne_eqb}
 use Rattle.std.proofs.lemmas.Option.{same_Some}
 use Rattle.desk_types.specs.declared.call.Call.{Call}
-use Rattle.desk_types.specs.declared.call.Call.TheVariants.{AddAccount, SetQuality, Suspend, AddCampaign, AddLine, SetBid, Pause, AddNegative, DropNegative, Import, Search, Click}
+use Rattle.desk_types.specs.declared.call.Call.TheVariants.{SetQuality, Suspend, AddCampaign, SetBudget, AddLine, SetBid, Pause, AddNegative, DropNegative, Import, Report, Shown}
 use Rattle.desk_types.specs.declared.call.ImportRow.{ImportRow}
 use Rattle.desk_types.specs.declared.call.Part.{Part}
 use Rattle.desk_types.specs.declared.call.Part.TheVariants.{OfCampaign, OfLine}
@@ -27,8 +27,8 @@ use Rattle.desk_types.specs.Own.{account_named, rows_of}
 use Rattle.desk_types.specs.State.{State}
 use Rattle.desk_types.specs.Step.{accepted, answered, at_moment, step}
 use Rattle.desk_types.specs.Tables.{account_of, batch_of, campaign_of, has_key, inserted, line_of, negative_of, put, put_all, put_row, replaced}
-use Rattle.desk_types.proofs.Accepting.{found_test}
 use Rattle.desk_types.proofs.EachRow.{Each, Each-append}
+use Rattle.desk_types.proofs.Lawful.{found_test}
 use Rattle.desk_types.proofs.Puts.{put_new, put_there, same_key}
 
 -- the change puts a row of this account
@@ -154,13 +154,13 @@ no_account account h = cc
 -- each change of a call is of the account that it names
 changes_are_of : (S : State) (call : Call) (account : ℕ) → account_named call ≡ Some account → Each (IsOf account) (changes S call)
 unfolding changes
-changes_are_of S (AddAccount key) account h = absurd (no_account account h)
 changes_are_of S (SetQuality k line quality) account h =
     let e = same_Some k account h in
     subst (λ a. Each (IsOf a) (changes S (SetQuality k line quality))) e (line_is_of S.tables k line (λ l. record l { quality = quality }) (line_of S.tables k line) refl (λ l. refl))
 changes_are_of S (Suspend k suspended) account h =
     subst (λ a. Each (IsOf a) (changes S (Suspend k suspended))) (same_Some k account h) (account_is_of S.tables k suspended (account_of S.tables k) refl)
 changes_are_of S (AddCampaign k key budget) account h = (same_Some k account h, (same_Some k account h, tt))
+changes_are_of S (SetBudget k key campaign amount) account h = (same_Some k account h, tt)
 changes_are_of S (AddLine k key campaign bid pattern headline link) account h = (same_Some k account h, tt)
 changes_are_of S (SetBid k key line bid) account h =
     subst (λ a. Each (IsOf a) (changes S (SetBid k key line bid))) (same_Some k account h) (line_is_of S.tables k line (λ l. record l { bid = bid }) (line_of S.tables k line) refl (λ l. refl))
@@ -172,8 +172,9 @@ changes_are_of S (DropNegative k key negative) account h =
     subst (λ a. Each (IsOf a) (changes S (DropNegative k key negative))) (same_Some k account h) (dropped_is_of S.tables k negative (negative_of S.tables k negative) refl)
 changes_are_of S (Import k key batch rows) account h =
     subst (λ a. Each (IsOf a) (changes S (Import k key batch rows))) (same_Some k account h) (import_is_of S.tables k batch rows (batch_of S.tables k batch))
-changes_are_of S (Search text places) account h = absurd (no_account account h)
-changes_are_of S (Click placement) account h = absurd (no_account account h)
+changes_are_of S (Report k key day) account h = tt
+changes_are_of S (Shown k key day from) account h = tt
+changes_are_of S call account h = absurd (no_account account h)
 
 answered_leaves : (S : State) (call : Call) (account other : ℕ) (judgement : Option Refusal) → account_named call ≡ Some account → account ≢ other
     → rows_of (answered S call judgement).state.tables other ≡ rows_of S.tables other

@@ -1,5 +1,5 @@
 -- The order of keys, and rows that are put by their keys.
-use Rattle.std.proofs.Common.{◌≡◌, ℕ, ◌+◌, Bool, true, false, ◌==◌, ◌||◌, cond, ◌&&◌, inl, inr, List, [], ◌∷◌, ◌++◌, find, Option, Some, is_some, refl, sym, ap, subst, ◌∙◌, arith}
+use Rattle.std.proofs.Common.{◌≡◌, ℕ, ◌+◌, ◌≤◌, ◌⊎◌, length, Bool, true, false, ◌==◌, ◌||◌, cond, ◌&&◌, inl, inr, List, [], ◌∷◌, ◌++◌, find, Option, Some, is_some, refl, sym, ap, subst, ◌∙◌, arith}
 use Rattle.std.specs.Prelude.{nat_lt}
 use Rattle.std.specs.List.{list_any, sum_by}
 use Rattle.std.proofs.lemmas.Bool.{cases_Bool, cond-true, cond-false, both_ways}
@@ -262,6 +262,36 @@ find-has key wanted test (r ∷ rows) by =
 
 pub has-find : {A : Type 0} (key : A → List ℕ) (wanted : List ℕ) (test : A → Bool) (rows : List A) → FindsKey key wanted test → has_key key wanted rows ≡ is_some (find test rows)
 has-find key wanted test rows by = find-has key wanted test rows by
+
+-- how many rows there are
+length-replaced : {A : Type 0} (key : A → List ℕ) (row : A) (rows : List A) → length (replaced key row rows) ≡ length rows
+length-replaced key row [] = refl
+length-replaced key row (r ∷ rows) =
+    elim (cases_Bool (is_same_key (key r) (key row))) [
+      | inl t ↦ ap length (cond-true _ (row ∷ rows) (r ∷ replaced key row rows) t)
+      | inr t ↦ omega (arith, ap length (cond-false _ (row ∷ rows) (r ∷ replaced key row rows) t), length-replaced key row rows)
+    ]
+
+length-inserted : {A : Type 0} (key : A → List ℕ) (row : A) (rows : List A) → length (inserted key row rows) ≡ length rows + 1
+length-inserted key row [] = refl
+length-inserted key row (r ∷ rows) =
+    elim (cases_Bool (is_less_key (key row) (key r))) [
+      | inl t ↦ omega (arith, ap length (cond-true _ (row ∷ r ∷ rows) (r ∷ inserted key row rows) t))
+      | inr t ↦ omega (arith, ap length (cond-false _ (row ∷ r ∷ rows) (r ∷ inserted key row rows) t), length-inserted key row rows)
+    ]
+
+-- a row that is there, or for which there is room, keeps the rows within a limit
+pub length-within : {A : Type 0} (key : A → List ℕ) (row : A) (rows : List A) (limit : ℕ) → length rows ≤ limit → (has_key key (key row) rows ≡ true) ⊎ (length rows + 1 ≤ limit)
+    → length (put_row key row rows) ≤ limit
+length-within key row rows limit fits room =
+    elim (cases_Bool (has_key key (key row) rows)) [
+      | inl t ↦ omega (arith, ap length (put_there key row rows t), length-replaced key row rows, fits)
+      | inr t ↦
+          elim room [
+            | inl there ↦ absurd (both_ways _ t there)
+            | inr more ↦ omega (arith, ap length (put_new key row rows t), length-inserted key row rows, more)
+          ]
+    ]
 
 -- sums
 pub sum-inserted : {A : Type 0} (key : A → List ℕ) (row : A) (f : A → ℕ) (rows : List A) → sum_by f (inserted key row rows) ≡ f row + sum_by f rows

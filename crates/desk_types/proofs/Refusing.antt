@@ -1,8 +1,7 @@
 -- A refused call changes the moment alone; the first refusal of joined tables.
-use Rattle.std.proofs.Common.{◌≡◌, ℕ, List, [], ◌∷◌, ◌++◌, Option, None, Some, refl}
+use Rattle.std.proofs.Common.{◌≡◌, ℕ, List, [], ◌∷◌, ◌++◌, Option, None, Some, refl, arith}
 use Rattle.std.specs.Option.{option_or}
 use Rattle.desk_types.specs.declared.call.Call.{Call}
-use Rattle.desk_types.specs.declared.call.Call.TheVariants.{AddAccount, SetQuality, Suspend, AddCampaign, AddLine, SetBid, Pause, AddNegative, DropNegative, Import, Search, Click}
 use Rattle.desk_types.specs.declared.refusal.Refusal.{Refusal}
 use Rattle.desk_types.specs.declared.reply.Reply.TheVariants.{Refused}
 use Rattle.desk_types.specs.Changes.{reply}
@@ -10,20 +9,10 @@ use Rattle.desk_types.specs.Judged.{first, judged}
 use Rattle.desk_types.specs.State.{State}
 use Rattle.desk_types.specs.Step.{answered, at_moment, step}
 
+-- an accepted call is not answered by a refusal
 reply_is_no_refusal : (S : State) (call : Call) (refusal : Refusal) → reply S call ≡ Refused refusal → ⊥
 unfolding reply
-reply_is_no_refusal S (AddAccount key) refusal h = cc
-reply_is_no_refusal S (SetQuality account line quality) refusal h = cc
-reply_is_no_refusal S (Suspend account suspended) refusal h = cc
-reply_is_no_refusal S (AddCampaign account key budget) refusal h = cc
-reply_is_no_refusal S (AddLine account key campaign bid pattern headline link) refusal h = cc
-reply_is_no_refusal S (SetBid account key line bid) refusal h = cc
-reply_is_no_refusal S (Pause account key part on) refusal h = cc
-reply_is_no_refusal S (AddNegative account key campaign pattern) refusal h = cc
-reply_is_no_refusal S (DropNegative account key negative) refusal h = cc
-reply_is_no_refusal S (Import account key batch rows) refusal h = cc
-reply_is_no_refusal S (Search text places) refusal h = cc
-reply_is_no_refusal S (Click placement) refusal h = cc
+reply_is_no_refusal S call refusal h = grind arith
 
 by_judgement : (S : State) (call : Call) (judgement : Option Refusal) (refusal : Refusal) → (answered S call judgement).reply ≡ Refused refusal → (answered S call judgement).state ≡ S
 by_judgement S call (Some r) refusal h = refl

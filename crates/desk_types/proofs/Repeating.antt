@@ -1,27 +1,22 @@
 -- A batch that comes again changes no row and is answered as before.
-use Rattle.std.proofs.Common.{◌≡◌, ℕ, ◌+◌, Bool, true, false, not, max, min, ◌==◌, ◌&&◌, inl, inr, List, [], ◌∷◌, ◌++◌, ◌||◌, find, map, Option, None, Some, is_none, is_some, bytes_eq, refl, sym, ap, subst, ◌∙◌}
+use Rattle.std.proofs.Common.{◌≡◌, ℕ, Bool, true, false, not, ◌==◌, ◌&&◌, inl, inr, List, [], ◌∷◌, ◌++◌, ◌||◌, find, map, Option, None, Some, is_none, is_some, bytes_eq, refl, sym, ap, subst, ◌∙◌}
 use Rattle.std.specs.List.{list_any}
-use Rattle.std.proofs.lemmas.Bool.{and_parts, both_ways, cases_Bool, cond-true, cond-false, eqb-true}
-use Rattle.std.proofs.lemmas.Option.{same_Some}
-use Rattle.desk_types.specs.declared.limits.TheConstants.{BATCH_MAX, MOMENT_MAX}
-use Rattle.desk_types.specs.declared.call.Call.{Call}
+use Rattle.std.proofs.lemmas.Bool.{both_ways, cases_Bool, cond-true, cond-false, eqb-true}
+use Rattle.desk_types.specs.declared.limits.TheConstants.{BATCH_MAX}
 use Rattle.desk_types.specs.declared.call.Call.TheVariants.{Import}
 use Rattle.desk_types.specs.declared.call.ImportRow.{ImportRow}
 use Rattle.desk_types.specs.declared.entry.Entry.{Entry}
-use Rattle.desk_types.specs.declared.entry.Outcome.{Outcome}
-use Rattle.desk_types.specs.declared.entry.Outcome.TheVariants.{Answered, Faulted}
 use Rattle.desk_types.specs.declared.refusal.Refusal.{Refusal}
 use Rattle.desk_types.specs.declared.refusal.Refusal.TheVariants.{BadField, BadKey, NoAccount}
 use Rattle.desk_types.specs.declared.refusal.Field.TheVariants as field
-use Rattle.desk_types.specs.declared.reply.Reply.{Reply}
-use Rattle.desk_types.specs.declared.reply.Reply.TheVariants.{Imported, Refused}
+use Rattle.desk_types.specs.declared.reply.Reply.TheVariants.{Imported}
 use Rattle.desk_types.specs.declared.rows.Account.{Account}
 use Rattle.desk_types.specs.declared.rows.Batch.{Batch}
 use Rattle.desk_types.specs.declared.rows.Fate.{Fate}
 use Rattle.desk_types.specs.declared.rows.Line.{Line}
 use Rattle.desk_types.specs.declared.rows.Placement.{Placement}
 use Rattle.desk_types.specs.declared.tables.Change.{Change}
-use Rattle.desk_types.specs.declared.tables.Change.TheVariants.{PutAccount, PutCampaign, PutBudget, PutLine, PutNegative, PutPlacement, PutBatch, PutFate}
+use Rattle.desk_types.specs.declared.tables.Change.TheVariants.{PutAccount, PutLine, PutBatch, PutFate}
 use Rattle.desk_types.specs.declared.tables.Tables.{Tables}
 use Rattle.desk_types.specs.Asked.{lines_made}
 use Rattle.desk_types.specs.Changes.{batch_made, changes, import_of, raises_edition, reply}
@@ -30,14 +25,14 @@ use Rattle.desk_types.specs.Keys.{account_key, batch_key, is_less_key, is_same_k
 use Rattle.desk_types.specs.LedgerLaws.{RepliesAlone}
 use Rattle.desk_types.specs.State.{State}
 use Rattle.desk_types.specs.Step.{accepted, answered, at_moment, next_edition, step}
-use Rattle.desk_types.specs.Run.{after, run}
+use Rattle.desk_types.specs.Run.{run}
 use Rattle.desk_types.specs.Sound.{IsSound}
 use Rattle.desk_types.specs.Tables.{account_of, batch_of, has_key, inserted, placement_of, put, put_all, put_fate, put_row, replaced}
-use Rattle.desk_types.proofs.Accepting.{found_test, from_not, lawful_call, none_holds, not_when}
-use Rattle.desk_types.proofs.Histories.{sound_after, sound_step}
-use Rattle.desk_types.proofs.Lawful.{AreLawful, IsGoodAccount, IsLawful, changed, finds_one, finds_two}
+use Rattle.desk_types.proofs.Accepting.{from_not, none_holds, not_when, some_from}
+use Rattle.desk_types.proofs.Histories.{sound_step}
+use Rattle.desk_types.proofs.Lasting.{Lasts, lasts_run}
+use Rattle.desk_types.proofs.Lawful.{IsGoodAccount, IsLawful, finds_one, finds_two, found_test}
 use Rattle.desk_types.proofs.Puts.{find-put, find-put_same, has-find, put_new, put_there, same_key, stays_there}
-use Rattle.desk_types.proofs.Sound.{sound_later, sound_put}
 
 -- the batch is there, with these numbers, and the key is the account's
 pub record IsKept (T : Tables) (account : ℕ) (key : List ℕ) (batch from count : ℕ) : Type 0 where
@@ -52,10 +47,6 @@ pub record IsKept (T : Tables) (account : ℕ) (key : List ℕ) (batch from coun
 not_none : {A : Type 0} (o : Option A) → is_some o ≡ true → is_none o ≡ false
 not_none None h = absurd cc
 not_none (Some x) h = refl
-
-some_from : {A : Type 0} (o : Option A) → is_none o ≡ false → is_some o ≡ true
-some_from None h = absurd cc
-some_from (Some x) h = refl
 
 -- such an import is accepted, and changes nothing
 kept_judged : (S : State) (account : ℕ) (key : List ℕ) (batch from count : ℕ) (rows : List ImportRow) → IsKept S.tables account key batch from count → judged S (Import account key batch rows) ≡ None
@@ -261,11 +252,6 @@ kept_put S (PutAccount a) account key batch from count lawful h = record {
   from_is = h.from_is;
   count_is = h.count_is;
 }
-kept_put S (PutCampaign c) account key batch from count lawful h = same_rows S.tables _ account key batch from count refl refl h
-kept_put S (PutBudget b) account key batch from count lawful h = same_rows S.tables _ account key batch from count refl refl h
-kept_put S (PutLine l) account key batch from count lawful h = same_rows S.tables _ account key batch from count refl refl h
-kept_put S (PutNegative n) account key batch from count lawful h = same_rows S.tables _ account key batch from count refl refl h
-kept_put S (PutPlacement p) account key batch from count lawful h = same_rows S.tables _ account key batch from count refl refl h
 kept_put S (PutBatch b) account key batch from count lawful h = record {
   known = h.known;
   fits = h.fits;
@@ -276,35 +262,20 @@ kept_put S (PutBatch b) account key batch from count lawful h = record {
   count_is = h.count_is;
 }
 kept_put S (PutFate number fate) account key batch from count lawful h = kept_fate S.tables fate (placement_of S.tables number) account key batch from count h
+kept_put S change account key batch from count lawful h = same_rows S.tables _ account key batch from count refl refl h
 
-kept_put_all : (S : State) (cs : List Change) (account : ℕ) (key : List ℕ) (batch from count : ℕ) → AreLawful S cs → IsKept S.tables account key batch from count → IsKept (put_all S.tables cs) account key batch from count
-unfolding put_all
-kept_put_all S [] account key batch from count lawful h = h
-kept_put_all S (c ∷ cs) account key batch from count lawful h = kept_put_all (changed S c) cs account key batch from count lawful.1 (kept_put S c account key batch from count lawful.0 h)
-
-kept_call : (S : State) (call : Call) (judgement : Option Refusal) (account : ℕ) (key : List ℕ) (batch from count : ℕ) → IsSound S → judged S call ≡ judgement → IsKept S.tables account key batch from count
-    → IsKept (answered S call judgement).state.tables account key batch from count
-unfolding accepted
-kept_call S call (Some refusal) account key batch from count sound is h = h
-kept_call S call None account key batch from count sound is h = kept_put_all S (changes S call) account key batch from count (lawful_call S call sound is) h
-
-kept_later : (S : State) (moment : ℕ) (call : Call) (outcome : Outcome) (account : ℕ) (key : List ℕ) (batch from count : ℕ) → IsSound S → IsKept S.tables account key batch from count
-    → IsKept (after S moment call outcome).tables account key batch from count
-unfolding step
-kept_later S moment call Answered account key batch from count sound h =
-    kept_call (at_moment S moment) call (judged (at_moment S moment) call) account key batch from count (sound_later S moment sound) refl h
-kept_later S moment call (Faulted before number) account key batch from count sound h = h
-
-kept_run : (S : State) (entries : List Entry) (account : ℕ) (key : List ℕ) (batch from count : ℕ) → IsSound S → IsKept S.tables account key batch from count → IsKept (run S entries).tables account key batch from count
-unfolding run
-kept_run S [] account key batch from count sound h = h
-kept_run S (e ∷ entries) account key batch from count sound h =
-    kept_run (after S e.moment e.call e.outcome) entries account key batch from count (sound_after S e.moment e.call e.outcome sound)
-    (kept_later S e.moment e.call e.outcome account key batch from count sound h)
+kept_lasts : (account : ℕ) (key : List ℕ) (batch from count : ℕ) → Lasts (λ S. IsKept S.tables account key batch from count)
+kept_lasts account key batch from count = record {
+  put = λ S change sound lawful h. kept_put S change account key batch from count lawful h;
+  later = λ S moment h. h;
+  edition = λ S edition h. h;
+}
 
 pub imported_later : (S : State) (between : List Entry) (one two account : ℕ) (key : List ℕ) (batch from count : ℕ) (rows others : List ImportRow) → IsSound S
     → (step S one (Import account key batch rows)).reply ≡ Imported from count
     → RepliesAlone (run (step S one (Import account key batch rows)).state between) two (Import account key batch others) (Imported from count)
 imported_later S between one two account key batch from count rows others sound answers =
     let S1 : State = (step S one (Import account key batch rows)).state in
-    kept_again (run S1 between) two account key batch from count others (kept_run S1 between account key batch from count (sound_step S one (Import account key batch rows) sound) (kept_first S one account key batch from count rows answers))
+    kept_again (run S1 between) two account key batch from count others
+    (lasts_run (λ T. IsKept T.tables account key batch from count) S1 between (kept_lasts account key batch from count)
+    (sound_step S one (Import account key batch rows) sound) (kept_first S one account key batch from count rows answers))

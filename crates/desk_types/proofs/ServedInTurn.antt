@@ -1,5 +1,5 @@
 -- Lists of calls that are served one after the other are served as one list.
-use Rattle.std.proofs.Common.{◌≡◌, ◌≢◌, ℕ, refl, sym, ap, List, [], ◌∷◌, ◌++◌, Result, ◌∙◌, subst, append_assoc}
+use Rattle.std.proofs.Common.{◌≡◌, ◌≢◌, ℕ, sym, ap, List, [], ◌∷◌, ◌++◌, Result, ◌∙◌, subst, append_assoc}
 use Rattle.std.proofs.lemmas.List.{append-nil}
 use Rattle.std.proofs.lemmas.List.Elements.{All-append, All-nil}
 use Rattle.desk_types.specs.declared.call.Call.{Call}

@@ -1,10 +1,8 @@
 -- An account is suspended and released, a campaign or a line is switched off and on: the catalogue is as it was.
-use Rattle.std.proofs.Common.{◌≡◌, ℕ, Bool, true, false, ◌==◌, ◌&&◌, ◌||◌, inl, inr, List, [], ◌∷◌, ◌++◌, find, Option, None, Some, is_none, is_some, refl, sym, ap, subst, ◌∙◌}
+use Rattle.std.proofs.Common.{◌≡◌, ℕ, Bool, true, false, ◌==◌, ◌&&◌, inl, inr, List, [], ◌∷◌, ◌++◌, find, Option, None, Some, is_none, is_some, refl, sym, ap, subst, ◌∙◌}
 use Rattle.std.proofs.lemmas.Bool.{cases_Bool, cond-true, cond-false, and_parts, eqb-true}
 use Rattle.std.proofs.lemmas.Option.{same_Some}
-use Rattle.desk_types.specs.declared.call.Call.{Call}
 use Rattle.desk_types.specs.declared.call.Call.TheVariants.{Suspend, Pause}
-use Rattle.desk_types.specs.declared.call.Part.{Part}
 use Rattle.desk_types.specs.declared.call.Part.TheVariants.{OfCampaign, OfLine}
 use Rattle.desk_types.specs.declared.refusal.Refusal.{Refusal}
 use Rattle.desk_types.specs.declared.refusal.Refusal.TheVariants.{NoAccount, NoCampaign, NoLine}
@@ -14,14 +12,13 @@ use Rattle.desk_types.specs.declared.rows.Line.{Line}
 use Rattle.desk_types.specs.declared.tables.Change.{Change}
 use Rattle.desk_types.specs.declared.tables.Change.TheVariants.{PutAccount, PutCampaign, PutLine}
 use Rattle.desk_types.specs.declared.tables.Tables.{Tables}
-use Rattle.desk_types.specs.Changes.{changes, put_found, switch_of}
+use Rattle.desk_types.specs.Changes.{changes, put_found}
 use Rattle.desk_types.specs.Judged.{first, judged, owner_rows, refusals, when}
 use Rattle.desk_types.specs.Keys.{account_key, campaign_key, is_same_key, line_key}
-use Rattle.desk_types.specs.State.{State, catalogue}
+use Rattle.desk_types.specs.State.{State}
 use Rattle.desk_types.specs.Step.{accepted, answered, at_moment, step}
 use Rattle.desk_types.specs.Tables.{account_of, campaign_of, has_key, line_of, put, put_all, put_row, replaced}
-use Rattle.desk_types.proofs.Accepting.{found_test}
-use Rattle.desk_types.proofs.Lawful.{finds_one, finds_two}
+use Rattle.desk_types.proofs.Lawful.{finds_one, finds_two, found_test}
 use Rattle.desk_types.proofs.Puts.{FindsKey, find-put_same, has-find, key_same, put_there}
 
 -- a row that is put in place of another, and then that one in place of it

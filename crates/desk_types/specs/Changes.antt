@@ -4,15 +4,16 @@ use Rattle.query_words.specs.Words.{words_of}
 use Rattle.match_types.specs.Pattern.{negative_text}
 use Rattle.desk_types.specs.declared.limits.TheConstants.{CLICK_WINDOW}
 use Rattle.desk_types.specs.declared.call.Call.{Call}
-use Rattle.desk_types.specs.declared.call.Call.TheVariants.{AddAccount, SetQuality, Suspend, AddCampaign, AddLine, SetBid, Pause, AddNegative, DropNegative, Import, Search, Click}
+use Rattle.desk_types.specs.declared.call.Call.TheVariants.{AddAccount, SetQuality, Suspend, Credit, HostReport, AddCampaign, SetBudget, AddLine, SetBid, Pause, AddNegative, DropNegative, Import, Report, Shown, Search, Click}
 use Rattle.desk_types.specs.declared.call.ImportRow.{ImportRow}
 use Rattle.desk_types.specs.declared.call.Part.{Part}
 use Rattle.desk_types.specs.declared.call.Part.TheVariants.{OfCampaign, OfLine}
 use Rattle.desk_types.specs.declared.reply.Reply.{Reply}
-use Rattle.desk_types.specs.declared.reply.Reply.TheVariants.{Made, Done, Imported, Page, Went}
+use Rattle.desk_types.specs.declared.reply.Reply.TheVariants.{Made, Done, Credited, HostDay, Imported, Day, ShownRows, Page, Went}
 use Rattle.desk_types.specs.declared.reply.Spot.{Spot}
 use Rattle.desk_types.specs.declared.rows.Batch.{Batch}
-use Rattle.desk_types.specs.declared.rows.Fate.TheVariants.{Open, Settled}
+use Rattle.desk_types.specs.declared.rows.Fate.{Fate}
+use Rattle.desk_types.specs.declared.rows.Fate.TheVariants as fate
 use Rattle.desk_types.specs.declared.rows.Negative.{Negative}
 use Rattle.desk_types.specs.declared.rows.Placement.{Placement}
 use Rattle.desk_types.specs.declared.tables.Change.{Change}
@@ -26,6 +27,7 @@ use Rattle.desk_types.specs.Judged.{dropped_negative, page_of}
 use Rattle.desk_types.specs.Money.{is_escrowed}
 use Rattle.auction_types.specs.Page.{place}
 use Rattle.auction_types.specs.Price.{price}
+use Rattle.desk_types.specs.Reports.{day_report, host_day, statement}
 use Rattle.desk_types.specs.State.{State}
 use Rattle.desk_types.specs.Tables.{account_of, batch_of, campaign_of, campaigns_of, line_of, lines_of, negative_of, negatives_of, placement_of}
 
@@ -92,7 +94,7 @@ placed S entered number a = record {
   price = price S.settings.reserve S.settings.floor entered a;
   shown = S.moment;
   deadline = S.moment + CLICK_WINDOW;
-  fate = Open;
+  fate = fate.Open;
 }
 
 -- the placements of the ads of a page, numbered from this number on
@@ -125,8 +127,22 @@ link_clicked T placement =
 
 -- a click settles a placement whose price is escrowed, and no other
 abbrev pub settlement : ℕ → Option Placement → List Change
-settlement moment (Some p) = if is_escrowed moment p then PutFate p.number (Settled moment) ∷ [] else []
+settlement moment (Some p) = if is_escrowed moment p then PutFate p.number (fate.Settled moment) ∷ [] else []
 settlement moment None = []
+
+-- the host credits a placement that a click settled, once
+abbrev pub credit_on : ℕ → ℕ → Fate → List Change
+credit_on moment number fate.Open = []
+credit_on moment number (fate.Settled at) = PutFate number (fate.Credited at moment) ∷ []
+credit_on moment number (fate.Credited settled credited) = []
+
+abbrev pub credit_of : ℕ → Option Placement → List Change
+credit_of moment (Some p) = credit_on moment p.number p.fate
+credit_of moment None = []
+
+-- the price of a placement
+abbrev pub price_of : Tables → ℕ → ℕ
+price_of T placement = unwrap_or (option_map (λ p. p.price) (placement_of T placement)) 0
 
 -- the changes of an accepted call, in order
 unfoldable pub changes : State → Call → List Change
@@ -136,11 +152,15 @@ changes S (SetQuality account line quality) =
     put_found (λ l. PutLine (record l { quality = quality })) (line_of S.tables account line)
 changes S (Suspend account suspended) =
     put_found (λ a. PutAccount (record a { suspended = suspended })) (account_of S.tables account)
+changes S (Credit placement) = credit_of S.moment (placement_of S.tables placement)
+changes S (HostReport day) = []
 changes S (AddCampaign account key budget) =
     let number = campaigns_of S.tables account + 1 in
     PutCampaign (record { account = account; number = number; on = true })
     ∷ PutBudget (record { account = account; campaign = number; at = S.moment; amount = budget })
     ∷ []
+changes S (SetBudget account key campaign amount) =
+    PutBudget (record { account = account; campaign = campaign; at = S.moment; amount = amount }) ∷ []
 changes S (AddLine account key campaign bid pattern headline link) =
     PutLine (line_made S.tables account
     (record { campaign = campaign; bid = bid; pattern = pattern; headline = headline; link = link })) ∷ []
@@ -152,6 +172,8 @@ changes S (AddNegative account key campaign pattern) =
 changes S (DropNegative account key negative) = drop_of (negative_of S.tables account negative)
 changes S (Import account key batch rows) =
     import_of S.tables account batch rows (batch_of S.tables account batch)
+changes S (Report account key day) = []
+changes S (Shown account key day from) = []
 changes S (Search text places) = map PutPlacement (placements_for S text places)
 changes S (Click placement) = settlement S.moment (placement_of S.tables placement)
 
@@ -160,7 +182,10 @@ unfoldable pub reply : State → Call → Reply
 reply S (AddAccount key) = Made (length S.tables.accounts + 1)
 reply S (SetQuality account line quality) = Done
 reply S (Suspend account suspended) = Done
+reply S (Credit placement) = Credited (price_of S.tables placement)
+reply S (HostReport day) = HostDay (host_day S day)
 reply S (AddCampaign account key budget) = Made (campaigns_of S.tables account + 1)
+reply S (SetBudget account key campaign amount) = Done
 reply S (AddLine account key campaign bid pattern headline link) = Made (lines_of S.tables account + 1)
 reply S (SetBid account key line bid) = Done
 reply S (Pause account key part on) = Done
@@ -169,6 +194,8 @@ reply S (DropNegative account key negative) = Done
 reply S (Import account key batch rows) =
     let b = batch_made S.tables account batch rows (batch_of S.tables account batch) in
     Imported b.first b.count
+reply S (Report account key day) = Day (day_report S account day)
+reply S (Shown account key day from) = ShownRows (statement S account day from)
 reply S (Search text places) = Page (map (spot_of S.tables) (placements_for S text places))
 reply S (Click placement) = Went (link_clicked S.tables placement)
 
@@ -177,12 +204,17 @@ unfoldable pub raises_edition : State → Call → Bool
 raises_edition S (AddAccount key) = true
 raises_edition S (SetQuality account line quality) = true
 raises_edition S (Suspend account suspended) = true
+raises_edition S (Credit placement) = false
+raises_edition S (HostReport day) = false
 raises_edition S (AddCampaign account key budget) = true
+raises_edition S (SetBudget account key campaign amount) = false
 raises_edition S (AddLine account key campaign bid pattern headline link) = true
 raises_edition S (SetBid account key line bid) = true
 raises_edition S (Pause account key part on) = true
 raises_edition S (AddNegative account key campaign pattern) = true
 raises_edition S (DropNegative account key negative) = true
 raises_edition S (Import account key batch rows) = is_none (batch_of S.tables account batch)
+raises_edition S (Report account key day) = false
+raises_edition S (Shown account key day from) = false
 raises_edition S (Search text places) = false
 raises_edition S (Click placement) = false

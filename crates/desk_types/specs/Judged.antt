@@ -7,25 +7,28 @@ use Rattle.match_types.specs.Pattern.{refusal, negative_refusal, negative_text}
 use Rattle.match_types.specs.Marks.{trimmed}
 use Rattle.match_types.specs.Tests.{is_same_pattern}
 use Rattle.auction_types.specs.declared.limits.TheConstants.{BID_MIN, BID_MAX, QUALITY_MIN, QUALITY_MAX, PLACES_MAX}
-use Rattle.desk_types.specs.declared.limits.TheConstants.{BUDGET_MIN, BUDGET_MAX, BATCH_MAX, ROWS_MAX, ACCOUNTS_MAX, CAMPAIGNS_MAX, LINES_MAX, NEGATIVES_MAX}
+use Rattle.desk_types.specs.declared.limits.TheConstants.{BUDGET_MIN, BUDGET_MAX, DAY_MAX, BATCH_MAX, ROWS_MAX, ACCOUNTS_MAX, CAMPAIGNS_MAX, LINES_MAX, NEGATIVES_MAX}
 use Rattle.desk_types.specs.declared.call.Call.{Call}
-use Rattle.desk_types.specs.declared.call.Call.TheVariants.{AddAccount, SetQuality, Suspend, AddCampaign, AddLine, SetBid, Pause, AddNegative, DropNegative, Import, Search, Click}
+use Rattle.desk_types.specs.declared.call.Call.TheVariants.{AddAccount, SetQuality, Suspend, Credit, HostReport, AddCampaign, SetBudget, AddLine, SetBid, Pause, AddNegative, DropNegative, Import, Report, Shown, Search, Click}
 use Rattle.desk_types.specs.declared.call.ImportRow.{ImportRow}
 use Rattle.desk_types.specs.declared.call.Part.{Part}
 use Rattle.desk_types.specs.declared.call.Part.TheVariants.{OfCampaign, OfLine}
 use Rattle.desk_types.specs.declared.refusal.Refusal.{Refusal}
-use Rattle.desk_types.specs.declared.refusal.Refusal.TheVariants.{BadKey, NoAccount, NoCampaign, NoLine, NoNegative, NoPlacement, BadField, BadPattern, LineThere, NegativeThere, AccountsFull, CampaignsFull, LinesFull, NegativesFull, PlacementsFull, QueryTooLong, QueryTooMany, BadRow}
+use Rattle.desk_types.specs.declared.refusal.Refusal.TheVariants.{BadKey, NoAccount, NoCampaign, NoLine, NoNegative, NoPlacement, BadField, BadPattern, LineThere, NegativeThere, BudgetBelowUsed, NotSettled, AccountsFull, CampaignsFull, LinesFull, NegativesFull, PlacementsFull, QueryTooLong, QueryTooMany, BadRow}
 use Rattle.desk_types.specs.declared.refusal.Field.TheVariants as field
 use Rattle.desk_types.specs.declared.rows.Batch.{Batch}
 use Rattle.desk_types.specs.declared.rows.Line.{Line}
 use Rattle.desk_types.specs.declared.rows.Negative.{Negative}
+use Rattle.desk_types.specs.declared.rows.Placement.{Placement}
 use Rattle.desk_types.specs.declared.tables.Tables.{Tables}
 use Rattle.auction_types.specs.AdValue.{AdValue}
 pub use Rattle.desk_types.specs.Asked.{AskedLine}
 use Rattle.desk_types.specs.Asked.{asked_by, with_line}
+use Rattle.desk_types.specs.Day.{day_of}
 use Rattle.desk_types.specs.Eligible.{entrants_for}
 use Rattle.desk_types.specs.Fields.{is_key, is_headline, is_link}
 use Rattle.auction_types.specs.Page.{page}
+use Rattle.desk_types.specs.Money.{is_open, used}
 use Rattle.desk_types.specs.Refusal.{number_of}
 use Rattle.desk_types.specs.State.{State}
 use Rattle.desk_types.specs.Tables.{account_of, batch_of, campaign_of, line_of, placement_of, campaigns_of, lines_of, negatives_of}
@@ -154,6 +157,19 @@ negative_rows T account campaign pattern =
     NegativesFull
     ∷ []
 
+-- the refusal of a call that names a day
+abbrev pub day_row : ℕ → Option Refusal
+day_row day = when (nat_lt DAY_MAX day) (BadField field.Day)
+
+-- what is used today of a campaign's budget
+abbrev pub used_today : State → ℕ → ℕ → ℕ
+used_today S account campaign = used S account campaign (day_of S.moment)
+
+-- whether a placement that is there was not clicked in time
+abbrev pub is_unsettled : Option Placement → Bool
+is_unsettled (Some p) = is_open p.fate
+is_unsettled None = false
+
 -- the refusals of a call, in order
 unfoldable pub refusals : State → Call → List (Option Refusal)
 refusals S (AddAccount key) =
@@ -168,10 +184,23 @@ refusals S (SetQuality account line quality) =
 refusals S (Suspend account suspended) =
     account_row S.tables account
     ∷ []
+refusals S (Credit placement) =
+    when (is_none (placement_of S.tables placement)) NoPlacement
+    ∷ when (is_unsettled (placement_of S.tables placement)) NotSettled
+    ∷ []
+refusals S (HostReport day) =
+    day_row day
+    ∷ []
 refusals S (AddCampaign account key budget) =
     owner_rows S.tables account key
     ++ when (not (is_within BUDGET_MIN BUDGET_MAX budget)) (BadField field.Budget)
     ∷ when (nat_le CAMPAIGNS_MAX (campaigns_of S.tables account)) CampaignsFull
+    ∷ []
+refusals S (SetBudget account key campaign amount) =
+    owner_rows S.tables account key
+    ++ campaign_row S.tables account campaign
+    ∷ when (not (is_within BUDGET_MIN BUDGET_MAX amount)) (BadField field.Budget)
+    ∷ when (nat_lt amount (used_today S account campaign)) (BudgetBelowUsed (used_today S account campaign))
     ∷ []
 refusals S (AddLine account key campaign bid pattern headline link) =
     owner_rows S.tables account key
@@ -198,6 +227,14 @@ refusals S (Import account key batch rows) =
     owner_rows S.tables account key
     ++ when (not (is_within 1 BATCH_MAX batch)) (BadField field.Batch)
     ∷ import_rows S.tables account (batch_of S.tables account batch) rows
+refusals S (Report account key day) =
+    owner_rows S.tables account key
+    ++ day_row day
+    ∷ []
+refusals S (Shown account key day from) =
+    owner_rows S.tables account key
+    ++ day_row day
+    ∷ []
 refusals S (Search text places) =
     when (nat_lt QUERY_BYTES (length text)) (QueryTooLong (length text))
     ∷ when (nat_lt QUERY_WORDS (length (words_of text))) (QueryTooMany (length (words_of text)))

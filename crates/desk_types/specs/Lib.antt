@@ -8,8 +8,10 @@ pub mod Judged
 pub mod Keys
 pub mod LedgerLaws
 pub mod Money
+pub mod MoneyMoves
 pub mod Own
 pub mod Refusal
+pub mod Reports
 pub mod Run
 pub mod Serving
 pub mod SettingsValue

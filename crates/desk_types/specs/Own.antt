@@ -1,7 +1,7 @@
 -- The rows of one account, and the account that a call names.
 use Rattle.std.specs.Prelude.{ℕ, ◌==◌, Option, None, Some, filter}
 use Rattle.desk_types.specs.declared.call.Call.{Call}
-use Rattle.desk_types.specs.declared.call.Call.TheVariants.{AddAccount, SetQuality, Suspend, AddCampaign, AddLine, SetBid, Pause, AddNegative, DropNegative, Import, Search, Click}
+use Rattle.desk_types.specs.declared.call.Call.TheVariants.{AddAccount, SetQuality, Suspend, Credit, HostReport, AddCampaign, SetBudget, AddLine, SetBid, Pause, AddNegative, DropNegative, Import, Report, Shown, Search, Click}
 use Rattle.desk_types.specs.declared.tables.Tables.{Tables}
 
 -- the account of this number and its rows
@@ -21,12 +21,17 @@ abbrev pub account_named : Call → Option ℕ
 account_named (AddAccount key) = None
 account_named (SetQuality account line quality) = Some account
 account_named (Suspend account suspended) = Some account
+account_named (Credit placement) = None
+account_named (HostReport day) = None
 account_named (AddCampaign account key budget) = Some account
+account_named (SetBudget account key campaign amount) = Some account
 account_named (AddLine account key campaign bid pattern headline link) = Some account
 account_named (SetBid account key line bid) = Some account
 account_named (Pause account key part on) = Some account
 account_named (AddNegative account key campaign pattern) = Some account
 account_named (DropNegative account key negative) = Some account
 account_named (Import account key batch rows) = Some account
+account_named (Report account key day) = Some account
+account_named (Shown account key day from) = Some account
 account_named (Search text places) = None
 account_named (Click placement) = None

@@ -1,9 +1,9 @@
 -- The number, the name and the detail of each refusal.
 use Rattle.std.specs.Prelude.{ℕ, List, codes}
 use Rattle.desk_types.specs.declared.refusal.Refusal.{Refusal}
-use Rattle.desk_types.specs.declared.refusal.Refusal.TheVariants.{BadKey, NoAccount, NoCampaign, NoLine, NoNegative, NoPlacement, BadField, BadPattern, LineThere, NegativeThere, AccountsFull, CampaignsFull, LinesFull, NegativesFull, PlacementsFull, QueryTooLong, QueryTooMany, BadRow}
+use Rattle.desk_types.specs.declared.refusal.Refusal.TheVariants.{BadKey, NoAccount, NoCampaign, NoLine, NoNegative, NoPlacement, BadField, BadPattern, LineThere, NegativeThere, BudgetBelowUsed, NotSettled, AccountsFull, CampaignsFull, LinesFull, NegativesFull, PlacementsFull, QueryTooLong, QueryTooMany, BadRow}
 use Rattle.desk_types.specs.declared.refusal.Field.{Field}
-use Rattle.desk_types.specs.declared.refusal.Field.TheVariants.{Key, Quality, Budget, Bid, Headline, Link, Batch, Rows, Places}
+use Rattle.desk_types.specs.declared.refusal.Field.TheVariants.{Key, Quality, Day, Budget, Bid, Headline, Link, Batch, Rows, Places}
 use Rattle.desk_types.specs.declared.refusal.Detail.{Detail}
 use Rattle.desk_types.specs.declared.refusal.Detail.TheVariants as detail
 
@@ -19,6 +19,8 @@ number_of (BadField field) = 7
 number_of (BadPattern cause) = 8
 number_of (LineThere line) = 9
 number_of (NegativeThere negative) = 10
+number_of (BudgetBelowUsed used) = 11
+number_of NotSettled = 12
 number_of AccountsFull = 13
 number_of CampaignsFull = 14
 number_of LinesFull = 15
@@ -40,6 +42,8 @@ name_of (BadField field) = codes "BadField"
 name_of (BadPattern cause) = codes "BadPattern"
 name_of (LineThere line) = codes "LineThere"
 name_of (NegativeThere negative) = codes "NegativeThere"
+name_of (BudgetBelowUsed used) = codes "BudgetBelowUsed"
+name_of NotSettled = codes "NotSettled"
 name_of AccountsFull = codes "AccountsFull"
 name_of CampaignsFull = codes "CampaignsFull"
 name_of LinesFull = codes "LinesFull"
@@ -55,6 +59,7 @@ detail_of (BadField field) = detail.Field field
 detail_of (BadPattern cause) = detail.Cause cause
 detail_of (LineThere line) = detail.Number line
 detail_of (NegativeThere negative) = detail.Number negative
+detail_of (BudgetBelowUsed used) = detail.Number used
 detail_of (QueryTooLong bytes) = detail.Number bytes
 detail_of (QueryTooMany words) = detail.Number words
 detail_of (BadRow row cause) = detail.Row row cause
@@ -64,6 +69,7 @@ detail_of NoCampaign = detail.Nothing
 detail_of NoLine = detail.Nothing
 detail_of NoNegative = detail.Nothing
 detail_of NoPlacement = detail.Nothing
+detail_of NotSettled = detail.Nothing
 detail_of AccountsFull = detail.Nothing
 detail_of CampaignsFull = detail.Nothing
 detail_of LinesFull = detail.Nothing
@@ -74,6 +80,7 @@ detail_of PlacementsFull = detail.Nothing
 abbrev pub field_name : Field → List ℕ
 field_name Key = codes "Key"
 field_name Quality = codes "Quality"
+field_name Day = codes "Day"
 field_name Budget = codes "Budget"
 field_name Bid = codes "Bid"
 field_name Headline = codes "Headline"

@@ -2,7 +2,7 @@
 use Rattle.std.specs.Prelude.{ℕ, ◌+◌, ◌-◌, ◌^◌, min, length, sum_by}
 use Rattle.desk_types.specs.declared.limits.TheConstants.{ROW_WEIGHT}
 use Rattle.desk_types.specs.declared.call.Call.{Call}
-use Rattle.desk_types.specs.declared.call.Call.TheVariants.{AddAccount, SetQuality, Suspend, AddCampaign, AddLine, SetBid, Pause, AddNegative, DropNegative, Import, Search, Click}
+use Rattle.desk_types.specs.declared.call.Call.TheVariants.{AddAccount, SetQuality, Suspend, Credit, HostReport, AddCampaign, SetBudget, AddLine, SetBid, Pause, AddNegative, DropNegative, Import, Report, Shown, Search, Click}
 use Rattle.desk_types.specs.declared.call.ImportRow.{ImportRow}
 
 -- a row of an import: the bytes of its texts, and what each row counts beside them
@@ -14,7 +14,10 @@ abbrev pub bytes_in : Call → ℕ
 bytes_in (AddAccount key) = length key
 bytes_in (SetQuality account line quality) = 0
 bytes_in (Suspend account suspended) = 0
+bytes_in (Credit placement) = 0
+bytes_in (HostReport day) = 0
 bytes_in (AddCampaign account key budget) = length key
+bytes_in (SetBudget account key campaign amount) = length key
 bytes_in (AddLine account key campaign bid pattern headline link) =
     length key + length pattern + length headline + length link
 bytes_in (SetBid account key line bid) = length key
@@ -22,6 +25,8 @@ bytes_in (Pause account key part on) = length key
 bytes_in (AddNegative account key campaign pattern) = length key + length pattern
 bytes_in (DropNegative account key negative) = length key
 bytes_in (Import account key batch rows) = length key + sum_by row_weight rows
+bytes_in (Report account key day) = length key
+bytes_in (Shown account key day from) = length key
 bytes_in (Search text places) = length text
 bytes_in (Click placement) = 0
 

@@ -30,6 +30,16 @@ pub enum Call {
         /// Whether it is suspended from now on.
         suspended: bool,
     },
+    /// The host credits a click to its advertiser.
+    Credit {
+        /// The placement's number.
+        placement: u64,
+    },
+    /// The host asks for the numbers of a day.
+    HostReport {
+        /// The day, 0 to 2,932,896.
+        day: u64,
+    },
     /// An advertiser makes a campaign.
     AddCampaign {
         /// The account's number.
@@ -38,6 +48,17 @@ pub enum Call {
         key: Text,
         /// The daily budget, in cents.
         budget: u64,
+    },
+    /// An advertiser sets the daily budget of a campaign, from today on.
+    SetBudget {
+        /// The account's number.
+        account: u64,
+        /// The account's key.
+        key: Text,
+        /// The campaign's number.
+        campaign: u64,
+        /// The daily budget, in cents.
+        amount: u64,
     },
     /// An advertiser makes a line.
     AddLine {
@@ -110,6 +131,26 @@ pub enum Call {
         /// The lines that are asked for, in order.
         rows: List<ImportRow>,
     },
+    /// An advertiser asks for the numbers of a day, campaign by campaign.
+    Report {
+        /// The account's number.
+        account: u64,
+        /// The account's key.
+        key: Text,
+        /// The day, 0 to 2,932,896.
+        day: u64,
+    },
+    /// An advertiser asks for the statement of a day: the placements that were shown.
+    Shown {
+        /// The account's number.
+        account: u64,
+        /// The account's key.
+        key: Text,
+        /// The day, 0 to 2,932,896.
+        day: u64,
+        /// The least number of a placement that is asked for.
+        from: u64,
+    },
     /// The public searches.
     Search {
         /// The text of the query.
@@ -156,8 +197,11 @@ impl Call {
     {
         match self {
             Call::AddAccount { key } => bytes(key),
-            Call::SetQuality { .. } | Call::Suspend { .. } => 0,
-            Call::AddCampaign { key, .. } => bytes(key),
+            Call::SetQuality { .. }
+            | Call::Suspend { .. }
+            | Call::Credit { .. }
+            | Call::HostReport { .. } => 0,
+            Call::AddCampaign { key, .. } | Call::SetBudget { key, .. } => bytes(key),
             Call::AddLine {
                 key,
                 pattern,
@@ -170,6 +214,7 @@ impl Call {
             Call::AddNegative { key, pattern, .. } => more(bytes(key), pattern),
             Call::DropNegative { key, .. } => bytes(key),
             Call::Import { key, rows, .. } => with_rows(bytes(key), rows.as_slice()),
+            Call::Report { key, .. } | Call::Shown { key, .. } => bytes(key),
             Call::Search { text, .. } => bytes(text),
             Call::Click { .. } => 0,
         }
@@ -243,6 +288,10 @@ impl Twin for Call {
                 account: *account,
                 suspended: *suspended,
             },
+            Call::Credit { placement } => Call::Credit {
+                placement: *placement,
+            },
+            Call::HostReport { day } => Call::HostReport { day: *day },
             Call::AddCampaign {
                 account,
                 key,
@@ -251,6 +300,17 @@ impl Twin for Call {
                 account: *account,
                 key: key.twin()?,
                 budget: *budget,
+            },
+            Call::SetBudget {
+                account,
+                key,
+                campaign,
+                amount,
+            } => Call::SetBudget {
+                account: *account,
+                key: key.twin()?,
+                campaign: *campaign,
+                amount: *amount,
             },
             Call::AddLine {
                 account,
@@ -321,6 +381,22 @@ impl Twin for Call {
                 key: key.twin()?,
                 batch: *batch,
                 rows: rows.twin()?,
+            },
+            Call::Report { account, key, day } => Call::Report {
+                account: *account,
+                key: key.twin()?,
+                day: *day,
+            },
+            Call::Shown {
+                account,
+                key,
+                day,
+                from,
+            } => Call::Shown {
+                account: *account,
+                key: key.twin()?,
+                day: *day,
+                from: *from,
             },
             Call::Search { text, places } => Call::Search {
                 text: text.twin()?,

@@ -15,8 +15,10 @@ ghost use Rattle.desk_types.specs.declared.rows.Account.{Account};
 ghost use Rattle.desk_types.specs.declared.rows.Campaign.{Campaign};
 ghost use Rattle.desk_types.specs.declared.rows.Line.{Line};
 ghost use Rattle.desk_types.specs.declared.rows.Placement.{Placement};
-ghost use Rattle.desk_types.specs.Changes.{link_clicked};
+ghost use Rattle.desk_types.specs.Changes.{link_clicked, placements_for};
+ghost use Rattle.desk_types.specs.Day.{day_of};
 ghost use Rattle.desk_types.specs.Judged.{first};
+ghost use Rattle.desk_types.specs.MoneyMoves.{CampaignAndDay, IsAffordable, IsEscrowed, IsFreed, IsSettled, expiring, may_move_money, money, on_day, prices, settling, with_budget};
 ghost use Rattle.desk_types.specs.Own.{account_named, rows_of};
 ghost use Rattle.desk_types.specs.SettingsValue.{SettingsValue};
 ghost use Rattle.desk_types.specs.State.{State, empty, catalogue};
@@ -57,6 +59,38 @@ pub fn pages_are_by_the_generalised_second_price()
         IsPageAnswered (at_moment (run S entries) moment) text places spots reached.state }
 {}
 
+/// The money of a campaign on a day moves with these events alone. As time passes, the prices of the placements whose
+/// deadline comes are freed. A search escrows the prices of the placements that it shows, each at most its bid, which is at
+/// most what was free. A click settles the price of its placement, where that was escrowed. The budget of a new campaign,
+/// or one that is set, counts for today and the days after. Nothing else moves money, credits among it.
+pub fn money_moves_as_recorded()
+    ensures expired { (S : State) (moment : ℕ) (on : CampaignAndDay) → let S1 = at_moment S moment in
+        IsFreed (prices on (expiring S S1.moment)) (money S on) (money S1 on) }
+    ensures shown { (S : State) (moment : ℕ) (text : List ℕ) (places : Option ℕ) (spots : List Spot)
+        (on : CampaignAndDay) → IsSound S → let S1 = at_moment S moment in
+        let reached = step S moment (Call.Search text places) in reached.reply ≡ Reply.Page spots →
+        IsEscrowed (prices on (placements_for S1 text places)) (money S1 on) (money reached.state on) }
+    ensures affordable { (S : State) (moment : ℕ) (text : List ℕ) (places : Option ℕ) → IsSound S →
+        let S1 = at_moment S moment in All (IsAffordable S1) (placements_for S1 text places) }
+    ensures settled { (S : State) (moment placement : ℕ) (on : CampaignAndDay) → IsSound S →
+        let S1 = at_moment S moment in
+        IsSettled (prices on (settling S1.moment (placement_of S1.tables placement))) (money S1 on)
+        (money (step S moment (Call.Click placement)).state on) }
+    ensures set { (S : State) (moment account : ℕ) (key : List ℕ) (campaign amount : ℕ) (on : CampaignAndDay) →
+        IsSound S → let S1 = at_moment S moment in
+        let reached = step S moment (Call.SetBudget account key campaign amount) in reached.reply ≡ Reply.Done →
+        money reached.state on ≡ with_budget (on_day account campaign (day_of S1.moment)) amount on (money S1 on) }
+    ensures made { (S : State) (moment account : ℕ) (key : List ℕ) (campaign amount : ℕ) (on : CampaignAndDay) →
+        IsSound S → let S1 = at_moment S moment in
+        let reached = step S moment (Call.AddCampaign account key amount) in reached.reply ≡ Reply.Made campaign →
+        money reached.state on ≡ with_budget (on_day account campaign (day_of S1.moment)) amount on (money S1 on) }
+    ensures no_other { (S : State) (moment : ℕ) (call : Call) (on : CampaignAndDay) → may_move_money call ≡ false →
+        money (step S moment call).state on ≡ money (at_moment S moment) on }
+    ensures refused { (S : State) (moment : ℕ) (call : Call) (refusal : Refusal) (on : CampaignAndDay) →
+        (step S moment call).reply ≡ Reply.Refused refusal →
+        money (step S moment call).state on ≡ money (at_moment S moment) on }
+{}
+
 /// A click behind an answered click on the same placement changes no row and goes to the same link: right
 /// behind it, and from a sound state whatever entries come between. So does a click at the deadline or later.
 pub fn clicks_settle_once()
@@ -91,6 +125,17 @@ pub fn batches_import_once()
         reached.reply ≡ Reply.Imported from count →
         let S1 = run reached.state between in
         RepliesAlone S1 second (Call.Import account key batch others) (Reply.Imported from count) }
+{}
+
+/// A placement that is credited again changes no row and is answered as the first time: right behind it, and from a sound
+/// state whatever entries come between.
+pub fn clicks_are_credited_once()
+    ensures repeated { (S : State) (first second placement price : ℕ) →
+        let reached = step S first (Call.Credit placement) in reached.reply ≡ Reply.Credited price →
+        RepliesAlone reached.state second (Call.Credit placement) (Reply.Credited price) }
+    ensures later { (S : State) (between : List Entry) (first second placement price : ℕ) → IsSound S →
+        let reached = step S first (Call.Credit placement) in reached.reply ≡ Reply.Credited price →
+        RepliesAlone (run reached.state between) second (Call.Credit placement) (Reply.Credited price) }
 {}
 
 /// An account that is suspended or released, and a campaign or a line that is switched off or on, and then set as it was,

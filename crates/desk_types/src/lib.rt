@@ -25,7 +25,7 @@ pub use entry::{Entry, Fault, Outcome};
 pub use fields::{is_headline, is_key};
 pub use link::LinkText;
 pub use refusal::{Detail, Field, Refusal};
-pub use reply::{Reply, Spot};
+pub use reply::{CampaignDay, DayReport, HostDay, Reply, ShownFate, ShownRow, Spot};
 pub use rows::{Account, Batch, BudgetSet, Campaign, Fate, Line, Negative, Placement};
 pub use service::Service;
 pub use settings::Settings;

@@ -40,6 +40,9 @@ pub const MOMENT_MAX: u64 = 253_402_300_799;
 /// The seconds of a day.
 pub const DAY_SECONDS: u64 = 86_400;
 
+/// The last day.
+pub const DAY_MAX: u64 = 2_932_896;
+
 /// How long a placement can be clicked, in seconds from the moment at which it was shown.
 pub const CLICK_WINDOW: u64 = 1_800;
 
@@ -73,6 +76,9 @@ pub const BATCH_MAX: u64 = 1_000_000_000_000;
 /// The most rows of an import; the fewest are one.
 pub const ROWS_MAX: u64 = 1_000;
 
+/// The most placements that a statement has.
+pub const STATEMENT_MAX: u64 = 1_000;
+
 /// What a row of an import adds to the bytes of the journal beside its texts.
 pub const ROW_WEIGHT: u64 = 128;
 
@@ -83,7 +89,8 @@ pub fn limits_are_these()
     ensures auctions { (RESERVE_USUAL ≡ 5) × (PLACES_USUAL ≡ 4) }
     ensures clicks { CLICK_WINDOW ≡ 1800 }
     ensures moments { MOMENT_MAX ≡ 253402300799 }
-    ensures days { (DAY_SECONDS ≡ 86400) × (day_of MOMENT_MAX ≡ 2932896) }
+    ensures days { (DAY_SECONDS ≡ 86400) × (DAY_MAX ≡ 2932896) × (day_of MOMENT_MAX ≡ DAY_MAX) }
+    ensures statements { STATEMENT_MAX ≡ 1000 }
     ensures texts { (KEY_BYTES_MIN ≡ 8) × (KEY_BYTES_MAX ≡ 64) × (HEADLINE_BYTES_MAX ≡ 90) × (LINK_BYTES_MAX ≡ 512) }
     ensures rows { (ACCOUNTS_MAX ≡ 1000) × (CAMPAIGNS_MAX ≡ 64) × (LINES_MAX ≡ 1000) × (NEGATIVES_MAX ≡ 500) }
     ensures imports { (BATCH_MAX ≡ 1000000000000) × (ROWS_MAX ≡ 1000) × (ROW_WEIGHT ≡ 128) }

@@ -29,6 +29,10 @@ pub enum Refusal {
     LineThere(u64),
     /// 10: the campaign has a live negative of the same pattern, of this number.
     NegativeThere(u64),
+    /// 11: the budget is below what is spent and escrowed of today's, which is this many cents.
+    BudgetBelowUsed(u64),
+    /// 12: the placement was not clicked in time, so that there is nothing to credit.
+    NotSettled,
     /// 13: there are as many accounts as there may be.
     AccountsFull,
     /// 14: the account has as many campaigns as it may have.
@@ -54,6 +58,8 @@ pub enum Field {
     Key,
     /// The quality of a line: 1 to 100.
     Quality,
+    /// The day of a report: 0 to 2,932,896.
+    Day,
     /// The daily budget of a campaign: 1 to 1,000,000,000,000 cents.
     Budget,
     /// The bid of a line: 1 to 1,000,000 cents.
@@ -79,7 +85,7 @@ pub enum Detail {
     Field(Field),
     /// The cause for which a text is no pattern.
     Cause(PatternCause),
-    /// The number of the line or the negative that is there, or the bytes or words of the query.
+    /// The number of the line or the negative that is there, the cents that are used, or the bytes or words of the query.
     Number(u64),
     /// The row of an import, from 1, and the number of its refusal.
     Row(u64, u64),
@@ -101,6 +107,8 @@ impl Refusal {
             Refusal::BadPattern(_) => 8,
             Refusal::LineThere(_) => 9,
             Refusal::NegativeThere(_) => 10,
+            Refusal::BudgetBelowUsed(_) => 11,
+            Refusal::NotSettled => 12,
             Refusal::AccountsFull => 13,
             Refusal::CampaignsFull => 14,
             Refusal::LinesFull => 15,
@@ -127,6 +135,8 @@ impl Refusal {
             Refusal::BadPattern(_) => "BadPattern",
             Refusal::LineThere(_) => "LineThere",
             Refusal::NegativeThere(_) => "NegativeThere",
+            Refusal::BudgetBelowUsed(_) => "BudgetBelowUsed",
+            Refusal::NotSettled => "NotSettled",
             Refusal::AccountsFull => "AccountsFull",
             Refusal::CampaignsFull => "CampaignsFull",
             Refusal::LinesFull => "LinesFull",
@@ -147,6 +157,7 @@ impl Refusal {
             Refusal::BadPattern(cause) => Detail::Cause(cause),
             Refusal::LineThere(number)
             | Refusal::NegativeThere(number)
+            | Refusal::BudgetBelowUsed(number)
             | Refusal::QueryTooLong(number)
             | Refusal::QueryTooMany(number) => Detail::Number(number),
             Refusal::BadRow(row, cause) => Detail::Row(row, cause),
@@ -163,6 +174,7 @@ impl Field {
         match self {
             Field::Key => "Key",
             Field::Quality => "Quality",
+            Field::Day => "Day",
             Field::Budget => "Budget",
             Field::Bid => "Bid",
             Field::Headline => "Headline",

@@ -1,0 +1,4 @@
+pub mod Numbers
+pub mod Keeping
+pub mod Walking
+pub mod Left

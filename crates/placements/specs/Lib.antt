@@ -1,0 +1,3 @@
+pub mod Clicks
+pub mod Linked
+pub mod PlacementsValue

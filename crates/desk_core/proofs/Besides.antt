@@ -1,23 +1,20 @@
 -- Changes of the catalogue, and the rows of a book, beside placements.
-use Rattle.std.proofs.Common.{◌≡◌, ℕ, true, List, [], ◌∷◌, length, None, refl, sym, ap, subst, ◌∙◌}
-use Rattle.std.specs.Prelude.{nat_lt}
+use Rattle.std.proofs.Common.{◌≡◌, ℕ, true, List, [], ◌∷◌, refl, sym, ap, subst, ◌∙◌}
+use Rattle.std.specs.List.{list_any}
 use Rattle.std.proofs.lemmas.List.Elements.{All-weaker}
 use Rattle.accounts.specs.declared.plan.EditFault.{EditFault}
 use Rattle.accounts.specs.declared.plan.EditFault.TheVariants as fault
 use Rattle.accounts.specs.declared.plan.Plan.{Plan as BookPlan}
 use Rattle.accounts.specs.AtHome.{AreAtHome, CanBePut, HasOwner, IsAtHome}
-use Rattle.accounts.specs.Planned.{is_edit, state_on}
+use Rattle.accounts.specs.Planned.{HasUsed, IsStateOf, is_edit, is_of_catalogue}
 use Rattle.accounts.specs.Planned.{IsPlanned as IsPlannedInBook, IsStop as IsStopInBook}
 use Rattle.accounts.proofs.Changing.{raised_by_change}
-use Rattle.accounts.proofs.ReadingRows.{same_changes, same_refusals, same_reply}
 use Rattle.desk_types.specs.declared.call.Call.{Call}
-use Rattle.desk_types.specs.declared.call.Call.TheVariants.{Search, Click}
+use Rattle.desk_types.specs.declared.call.Call.TheVariants.{Click}
 use Rattle.desk_types.specs.declared.rows.Placement.{Placement}
 use Rattle.desk_types.specs.declared.tables.Change.{Change}
 use Rattle.desk_types.specs.declared.tables.Change.TheVariants.{PutAccount, PutCampaign, PutBudget, PutLine, PutNegative, PutPlacement, PutBatch, PutFate}
 use Rattle.desk_types.specs.declared.tables.Tables.{Tables}
-use Rattle.desk_types.specs.Changes.{changes}
-use Rattle.desk_types.specs.Judged.{first, judged}
 use Rattle.desk_types.specs.SettingsValue.{SettingsValue}
 use Rattle.desk_types.specs.State.{State}
 use Rattle.desk_types.specs.Tables.{put, put_all}
@@ -87,40 +84,41 @@ book_can_put B T ps list is h = can_be_put_beside (with B ps) B.placements list 
 abbrev pub state_beside : SettingsValue → ℕ → ℕ → Tables → List Placement → State
 state_beside settings moment edition B ps = record { settings = settings; moment = moment; edition = edition; tables = with B ps }
 
+-- the rows of a book beside placements are a state that it judges in
+is_state : (settings : SettingsValue) (moment edition used : ℕ) (B : Tables) (ps : List Placement) (call : Call) → HasUsed (state_beside settings moment edition B ps) call used
+    → IsStateOf B moment used call (state_beside settings moment edition B ps)
+is_state settings moment edition used B ps call has = record { rows = refl; at = refl; has_used = has }
+
 -- the book's plan of an edit is the ledger's
-pub planned_by_book : (settings : SettingsValue) (moment edition : ℕ) (B : Tables) (ps : List Placement) (call : Call) (plan : BookPlan) → (told : Told) → ((T : Tables) → replied T told ≡ plan.reply) → ((T : Tables) → IsThere T told) → is_edit call ≡ true → IsPlannedInBook (state_on B moment) call plan → CanBePut B plan.changes
+pub planned_by_book : (settings : SettingsValue) (moment edition used : ℕ) (B : Tables) (ps : List Placement) (call : Call) (plan : BookPlan) (told : Told) → ((T : Tables) → replied T told ≡ plan.reply) → ((T : Tables) → IsThere T told) → is_edit call ≡ true
+    → HasUsed (state_beside settings moment edition B ps) call used → ((S : State) → IsStateOf B moment used call S → IsPlannedInBook S call plan) → CanBePut B plan.changes
     → IsPlanned (state_beside settings moment edition B ps) call (record { changes = Catalogue plan.changes; told = told })
-planned_by_book settings moment edition B ps call plan told says there edit h can =
+planned_by_book settings moment edition used B ps call plan told says there edit has planned can =
     let S = state_beside settings moment edition B ps in
-    let passes : judged S call ≡ None = ap first (same_refusals B.placements S call edit) ∙ h.not_refused in
-    let changed : plan.changes ≡ changes S call = h.changed ∙ sym (same_changes B.placements S call edit) in
+    let h = planned S (is_state settings moment edition used B ps call has) in
     record {
-      not_refused = passes;
-      changed = changed;
-      raised = ap (λ list. nat_lt 0 (length list)) changed ∙ sym (raised_by_change S call edit passes);
+      not_refused = h.not_refused;
+      changed = h.changed;
+      raised = ap (list_any is_of_catalogue) h.changed ∙ sym (raised_by_change S call edit h.not_refused);
       can_be_put = can_be_put_beside B ps plan.changes can;
-      told = says (put_all S.tables plan.changes) ∙ h.replied ∙ sym (same_reply B.placements S call edit);
+      told = says (put_all S.tables plan.changes) ∙ h.replied;
       there = there (put_all S.tables plan.changes);
     }
 
 -- what stops an edit in the book stops it in the ledger
-pub stopped_by_book : (settings : SettingsValue) (moment edition : ℕ) (B : Tables) (ps : List Placement) (call : Call) (why : EditFault) → is_edit call ≡ true → IsStopInBook (state_on B moment) call why
-    → IsStop (state_beside settings moment edition B ps) call (stop_of why)
-stopped_by_book settings moment edition B ps call (fault.Refused refusal) edit h = ap first (same_refusals B.placements (state_beside settings moment edition B ps) call edit) ∙ h
-stopped_by_book settings moment edition B ps call fault.NoMemory edit h = tt
-
--- a call that is neither a search nor a click is an edit
-pub edit_else : (call : Call) → ((text : _) (places : _) → call ≡ Search text places → ⊥) → ((placement : ℕ) → call ≡ Click placement → ⊥) → is_edit call ≡ true
-edit_else (Search text places) search click = absurd (search text places refl)
-edit_else (Click placement) search click = absurd (click placement refl)
-edit_else _ search click = refl
+pub stopped_by_book : (settings : SettingsValue) (moment edition used : ℕ) (B : Tables) (ps : List Placement) (call : Call) (why : EditFault) → HasUsed (state_beside settings moment edition B ps) call used
+    → ((S : State) → IsStateOf B moment used call S → IsStopInBook S call why) → IsStop (state_beside settings moment edition B ps) call (stop_of why)
+stopped_by_book settings moment edition used B ps call (fault.Refused refusal) has stops = stops (state_beside settings moment edition B ps) (is_state settings moment edition used B ps call has)
+stopped_by_book settings moment edition used B ps call fault.NoMemory has stops = tt
 
 -- an edit goes to no link
 no_link : (S : State) (call : Call) → is_edit call ≡ true → HasNoLink (reply S call)
 unfolding reply
-no_link S (Search text places) edit = absurd cc
 no_link S (Click placement) edit = absurd cc
 no_link S _ edit = tt
 
-pub edit_has_no_link : (T : Tables) (moment : ℕ) (call : Call) (plan : BookPlan) → is_edit call ≡ true → IsPlannedInBook (state_on T moment) call plan → HasNoLink plan.reply
-edit_has_no_link T moment call plan edit h = subst HasNoLink (sym h.replied) (no_link (state_on T moment) call edit)
+pub edit_has_no_link : (settings : SettingsValue) (moment edition used : ℕ) (B : Tables) (ps : List Placement) (call : Call) (plan : BookPlan) → is_edit call ≡ true → HasUsed (state_beside settings moment edition B ps) call used
+    → ((S : State) → IsStateOf B moment used call S → IsPlannedInBook S call plan) → HasNoLink plan.reply
+edit_has_no_link settings moment edition used B ps call plan edit has planned =
+    let S = state_beside settings moment edition B ps in
+    subst HasNoLink (sym (planned S (is_state settings moment edition used B ps call has)).replied) (no_link S call edit)

@@ -1,14 +1,19 @@
 -- What is spent or escrowed is the sum of the prices that count.
-use Rattle.std.proofs.Common.{◌≡◌, ℕ, ◌+◌, Bool, true, false, ◌&&◌, ◌||◌, cond, inl, inr, List, [], ◌∷◌, refl, sym, ap, ◌∙◌, arith}
+use Rattle.std.proofs.Common.{◌≡◌, ℕ, ◌+◌, Bool, true, false, ◌&&◌, ◌||◌, cond, inl, inr, List, [], ◌∷◌, ◌==◌, reverse, refl, sym, ap, ◌∙◌, arith}
 use Rattle.std.specs.Prelude.{nat_lt}
 use Rattle.std.specs.List.{filter, sum_by}
 use Rattle.std.proofs.lemmas.Bool.{cases_Bool, cond-true, cond-false}
-use Rattle.std.proofs.lemmas.List.Sums.{sum_by-cons}
+use Rattle.std.proofs.lemmas.List.{reverse-append}
+use Rattle.std.proofs.lemmas.List.Elements.{filter_agree}
+use Rattle.std.proofs.lemmas.List.Sums.{sum_by-append, sum_by-cons}
 use Rattle.desk_types.specs.declared.rows.Fate.{Fate}
 use Rattle.desk_types.specs.declared.rows.Fate.TheVariants.{Open, Settled, Credited}
 use Rattle.desk_types.specs.declared.rows.Placement.{Placement}
 use Rattle.desk_types.specs.Money.{escrowed, is_escrowed, is_open, is_shown_on, is_spent, spent, used}
+use Rattle.desk_types.specs.Day.{day_of}
 use Rattle.desk_types.specs.State.{State}
+use Rattle.placements.specs.Linked.{is_of_day}
+use Rattle.placements.proofs.Left.{filter-reverse, filter_both}
 use Rattle.desk_core.specs.Charges.{is_charged}
 
 -- a price is not both spent and escrowed
@@ -43,6 +48,33 @@ sum_charged account campaign day moment (p ∷ ps) =
       sum_charged account campaign day moment ps,
     )
 
-pub used-charged : (S : State) (account campaign day : ℕ) → used S account campaign day ≡ sum_by (λ p. p.price) (filter (is_charged account campaign day S.moment) S.tables.placements)
+used-charged : (S : State) (account campaign day : ℕ) → used S account campaign day ≡ sum_by (λ p. p.price) (filter (is_charged account campaign day S.moment) S.tables.placements)
 unfolding spent escrowed
 used-charged S account campaign day = sum_charged account campaign day S.moment S.tables.placements
+
+-- the sum does not depend on the order
+sum_by-reverse : {A : Type 0} (f : A → ℕ) (xs : List A) → sum_by f (reverse xs) ≡ sum_by f xs
+sum_by-reverse f [] = refl
+sum_by-reverse f (x ∷ xs) =
+    omega (arith, ap (sum_by f) (reverse-append (x ∷ []) xs), sum_by-append f (reverse xs) (x ∷ []), sum_by-cons f x [], sum_by-cons f x xs, sum_by-reverse f xs)
+
+own_day : (account campaign day charged : Bool) → ((account && day) && ((account && (campaign && day)) && charged)) ≡ ((account && (campaign && day)) && charged)
+own_day true true true charged = refl
+own_day true false true charged = refl
+own_day true true false charged = refl
+own_day true false false charged = refl
+own_day false campaign day charged = refl
+
+-- those that count are of the account and the day
+charged_own : (account campaign day moment : ℕ) (p : Placement) → (is_of_day account day p && is_charged account campaign day moment p) ≡ is_charged account campaign day moment p
+charged_own account campaign day moment p = own_day (p.account == account) (p.campaign == campaign) (day_of p.shown == day) (is_spent p.fate || is_escrowed moment p)
+
+-- the sum over the account's placements of the day, in any order
+pub used-own : (S : State) (account campaign day : ℕ)
+    → sum_by (λ p. p.price) (filter (is_charged account campaign day S.moment) (reverse (filter (is_of_day account day) S.tables.placements))) ≡ used S account campaign day
+used-own S account campaign day =
+    let test = is_charged account campaign day S.moment in
+    ap (sum_by (λ (p : Placement). p.price)) (filter-reverse test (filter (is_of_day account day) S.tables.placements)
+    ∙ ap reverse (filter_both (is_of_day account day) test S.tables.placements ∙ filter_agree (λ p. is_of_day account day p && test p) test (charged_own account campaign day S.moment) S.tables.placements))
+    ∙ sum_by-reverse (λ (p : Placement). p.price) (filter test S.tables.placements)
+    ∙ sym (used-charged S account campaign day)

@@ -1,13 +1,14 @@
 -- A desk without calls, and a desk after a further call.
-use Rattle.std.proofs.Common.{◌≡◌, ℕ, ◌+◌, ◌≤◌, List, [], ◌∷◌, ◌++◌, length, false, Ok, sym, ap, ◌∙◌, refl, subst, arith}
+use Rattle.std.proofs.Common.{◌≡◌, ◌≢◌, Result, true, append-nil, ℕ, ◌+◌, ◌≤◌, List, [], ◌∷◌, ◌++◌, length, false, Ok, sym, ap, ◌∙◌, refl, subst, arith}
 use Rattle.std.proofs.lemmas.List.Elements.{All-nil, All-push}
 use Rattle.desk_types.specs.declared.call.Call.{Call}
 use Rattle.desk_types.specs.declared.entry.Entry.{Entry}
 use Rattle.desk_types.specs.declared.entry.Outcome.TheVariants.{Answered}
+use Rattle.desk_types.specs.declared.entry.Fault.{Fault}
 use Rattle.desk_types.specs.declared.reply.Reply.{Reply}
 use Rattle.desk_types.specs.Journal.{IsLegal, entries_of, is_full}
 use Rattle.desk_types.specs.Run.{run}
-use Rattle.desk_types.specs.Serving.{HasNoFault, with_entry}
+use Rattle.desk_types.specs.Serving.{Ends, HasNoFault, IsSureResult, Serves, with_entry, with_seen}
 use Rattle.desk_types.specs.SettingsValue.{SettingsValue}
 use Rattle.desk_types.specs.Sound.{IsSound}
 use Rattle.desk_types.specs.State.{State, empty}
@@ -16,8 +17,10 @@ use Rattle.desk_types.proofs.Editions.{run-append}
 use Rattle.desk_types.proofs.Legality.{legal_answer, legal_empty}
 use Rattle.desk_types.proofs.Histories.{sound_run}
 use Rattle.desk_types.proofs.Sound.{sound_empty}
-use Rattle.desk_core.specs.DeskValue.{Answers, IsReached}
+use Rattle.desk_core.specs.DeskValue.{Answers, DeskValue, IsReached, service_of}
 use Rattle.desk_core.specs.JournalValue.{JournalValue}
+use Rattle.desk_core.specs.Told.{IsThere, replied}
+use Rattle.desk_core.specs.declared.told.Told.{Told}
 use Rattle.desk_core.proofs.Reached.{edition_reached}
 
 pub reached_first : (settings : SettingsValue) (rows : State) (journal : JournalValue) → rows ≡ empty settings → journal.settings ≡ settings → journal.entries ≡ [] → IsReached rows journal
@@ -29,6 +32,13 @@ reached_first settings rows journal are same none =
       legal = subst (λ es. IsLegal journal.settings es) (sym none) (legal_empty journal.settings);
       no_fault = subst HasNoFault (sym none) none_fails;
     }
+
+-- what is told of the rows is told of the run of the journal
+pub told_reached : (rows : State) (journal : JournalValue) (told : Told) → IsReached rows journal → replied (run (empty journal.settings) journal.entries).tables told ≡ replied rows.tables told
+told_reached rows journal told h = ap (λ (S : State). replied S.tables told) (sym h.run_of_journal)
+
+pub there_reached : (rows : State) (journal : JournalValue) (told : Told) → IsReached rows journal → IsThere rows.tables told → IsThere (run (empty journal.settings) journal.entries).tables told
+there_reached rows journal told h there = subst (λ (S : State). IsThere S.tables told) h.run_of_journal there
 
 -- what a desk needs of its rows
 pub sound_rows : (rows : State) (journal : JournalValue) → IsReached rows journal → IsSound rows
@@ -74,3 +84,17 @@ reached_same rows left before after h are same none = record {
   legal = subst (λ s. IsLegal s after.entries) (sym same) (subst (λ es. IsLegal before.settings es) (sym none) h.legal);
   no_fault = subst HasNoFault (sym none) h.no_fault;
 }
+
+-- a call on a desk is one of a service, to which no entries of others come
+pub serves_from : (caller moment : ℕ) (call : Call) (before after : DeskValue) (told result : Result Reply Fault) → Answers caller before moment call told after → IsSureResult told → after.settings ≡ before.settings → told ≡ result
+    → Serves (service_of caller before) moment call result (service_of caller after)
+serves_from caller moment call before after told result answered sure same is =
+    let more : before.log ++ [] ≡ before.log = append-nil before.log in
+    record {
+      others = [];
+      of_others = All-nil (λ e. e.caller ≢ caller);
+      ends = subst (λ es. Ends (with_seen (service_of caller before) es) moment call result after.log) (sym more) (subst (λ r. Ends (service_of caller before) moment call r after.log) is answered.ends);
+      legal = answered.legal;
+      stays = (λ i. record { me = caller; opening = empty (same i); seen = after.log; sure = true });
+      sure_result = λ h. subst IsSureResult is sure;
+    }

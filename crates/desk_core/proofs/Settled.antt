@@ -15,11 +15,17 @@ use Rattle.desk_types.specs.Judged.{first, refusals, when}
 use Rattle.desk_types.specs.Money.{is_escrowed}
 use Rattle.desk_types.specs.State.{State}
 use Rattle.desk_types.specs.Tables.{placement_of, put, put_all, put_fate}
+use Rattle.placements.specs.Clicks.{fated}
 use Rattle.desk_core.specs.declared.plan.Changes.{Changes}
 use Rattle.desk_core.specs.declared.plan.Changes.TheVariants as changed
 use Rattle.desk_core.specs.declared.told.Told.TheVariants.{Link}
-use Rattle.desk_core.specs.Planned.{BookCanPut, IsPlanned, changes_catalogue, listed, needs_no_room}
+use Rattle.desk_core.specs.Planned.{CanBePutIn, IsPlanned, changes_catalogue, listed, needs_no_room}
 use Rattle.desk_core.specs.Shown.{HasLine}
+
+-- a fate is put as the rows of placements say
+pub fate_put : (T : Tables) (fate : Fate) (found : Option Placement) → put_fate T fate found ≡ record T { placements = fated fate found T.placements }
+fate_put T fate None = refl
+fate_put T fate (Some p) = refl
 
 fate_lines : (T : Tables) (fate : Fate) (found : Option Placement) → (put_fate T fate found).lines ≡ T.lines
 fate_lines T fate None = refl
@@ -30,13 +36,13 @@ unfolding put_all put
 settled_lines T number moment true = fate_lines T (Settled moment) (placement_of T number)
 settled_lines T number moment false = refl
 
-can_put : (T : Tables) (settled : Changes) → needs_no_room settled ≡ true → BookCanPut T settled
-can_put T changed.Nothing h = tt
-can_put T (changed.Fate number fate) h = tt
-can_put T (changed.Placed list) h = absurd cc
-can_put T (changed.Catalogue list) h = absurd cc
+pub can_be_put : (T : Tables) (settled : Changes) → needs_no_room settled ≡ true → CanBePutIn T settled
+can_be_put T changed.Nothing h = tt
+can_be_put T (changed.Fate number fate) h = tt
+can_be_put T (changed.Placed list) h = absurd cc
+can_be_put T (changed.Catalogue list) h = absurd cc
 
-of_money : (settled : Changes) → needs_no_room settled ≡ true → changes_catalogue settled ≡ false
+pub of_money : (settled : Changes) → needs_no_room settled ≡ true → changes_catalogue settled ≡ false
 of_money changed.Nothing h = refl
 of_money (changed.Fate number fate) h = refl
 of_money (changed.Placed list) h = absurd cc
@@ -53,7 +59,7 @@ planned_click S placement p settled is line h no_room =
       not_refused = ap (λ found. first (when (is_none found) NoPlacement ∷ [])) is;
       changed = h ∙ ap (settlement S.moment) (sym is);
       raised = of_money settled no_room;
-      can_be_put = can_put T settled no_room;
+      can_be_put = can_be_put T settled no_room;
       told =
           ap (λ (lines : List Line). Went (unwrap_or (option_map (λ (l : Line). l.link) (find (λ (l : Line). l.account == p.account && l.number == p.line) lines)) [])) kept
           ∙ ap (λ found. Went (unwrap_or (option_map (λ (q : Placement). link_of T q.account q.line) found) [])) (sym is);

@@ -5,4 +5,5 @@ pub mod LedgerValue
 pub mod Planned
 pub mod Shown
 pub mod SoloValue
+pub mod Sums
 pub mod Told

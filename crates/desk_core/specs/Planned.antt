@@ -1,8 +1,10 @@
 -- What the judgement on a call gives: the changes and the reply of an accepted call, or why it stops.
-use Rattle.std.specs.Prelude.{◌≡◌, ◌≢◌, Bool, true, false, nat_lt, length, IsTrue, List, [], ◌∷◌, map, Option, None, Some, Result, Ok, Err, ⊤}
+use Rattle.std.specs.Prelude.{◌≡◌, ◌≢◌, Bool, true, false, IsTrue, List, [], ◌∷◌, map, Option, None, Some, Result, Ok, Err, ⊤}
+use Rattle.std.specs.List.{list_any}
 use Rattle.accounts.specs.declared.plan.EditFault.{EditFault}
 use Rattle.accounts.specs.declared.plan.EditFault.TheVariants as fault
 use Rattle.accounts.specs.AtHome.{CanBePut}
+use Rattle.accounts.specs.Planned.{is_of_catalogue}
 use Rattle.desk_types.specs.declared.call.Call.{Call}
 use Rattle.desk_types.specs.declared.refusal.Refusal.{Refusal}
 use Rattle.desk_types.specs.declared.tables.Change.{Change}
@@ -18,6 +20,7 @@ use Rattle.desk_core.specs.declared.plan.Plan.{Plan}
 use Rattle.desk_core.specs.declared.stop.Stop.{Stop}
 use Rattle.desk_core.specs.declared.stop.Stop.TheVariants.{Refused, NoMemory}
 use Rattle.desk_core.specs.Told.{IsThere, replied}
+use Rattle.placements.specs.PlacementsValue.{AreNext}
 
 -- the changes, in order
 abbrev pub listed : Changes → List Change
@@ -31,7 +34,7 @@ abbrev pub changes_catalogue : Changes → Bool
 changes_catalogue Nothing = false
 changes_catalogue (Fate number fate) = false
 changes_catalogue (Placed list) = false
-changes_catalogue (Catalogue list) = nat_lt 0 (length list)
+changes_catalogue (Catalogue list) = list_any is_of_catalogue list
 
 -- whether changes need no room: there is none, or a fate is set
 abbrev pub needs_no_room : Changes → Bool
@@ -40,12 +43,12 @@ needs_no_room (Fate number fate) = true
 needs_no_room (Placed list) = false
 needs_no_room (Catalogue list) = false
 
--- a book of these accounts can put the changes of the catalogue
-abbrev pub BookCanPut : Tables → Changes → Type 0
-BookCanPut T Nothing = ⊤
-BookCanPut T (Fate number fate) = ⊤
-BookCanPut T (Placed list) = ⊤
-BookCanPut T (Catalogue list) = CanBePut T list
+-- changes can be put: placements have the next numbers and moments, and those of the catalogue fit a book of these accounts
+abbrev pub CanBePutIn : Tables → Changes → Type 0
+CanBePutIn T Nothing = ⊤
+CanBePutIn T (Fate number fate) = ⊤
+CanBePutIn T (Placed list) = AreNext T.placements list
+CanBePutIn T (Catalogue list) = CanBePut T list
 
 -- no refusal of the call holds, the changes are those of the accepted call, which raises the edition where they change
 -- the catalogue, and the reply is told behind them
@@ -53,7 +56,7 @@ pub record IsPlanned (S : State) (call : Call) (plan : Plan) : Type 0 where
   pub not_refused : judged S call ≡ None
   pub changed : listed plan.changes ≡ changes S call
   pub raised : changes_catalogue plan.changes ≡ raises_edition S call
-  pub can_be_put : BookCanPut S.tables plan.changes
+  pub can_be_put : CanBePutIn S.tables plan.changes
   pub told : replied (put_all S.tables (listed plan.changes)) plan.told ≡ reply S call
   pub there : IsThere (put_all S.tables (listed plan.changes)) plan.told
 

@@ -9,11 +9,11 @@ ghost use Rattle.desk_types.specs.Tables.{placement_of};
 ghost use Rattle.desk_core.specs.Planned.{IsPlanned, IsStop, TakesNoMemory, listed, needs_no_room};
 
 use crate::ledger::Ledger;
-use crate::money::is_escrowed;
 use crate::plan::{Changes, Plan};
 use crate::stop::Stop;
 use crate::told::Told;
 use desk_types::{Fate, Placement, Refusal};
+use placements::is_escrowed;
 
 impl Ledger {
     /// Plans a click on the placement of this number: it settles where the price is escrowed, and goes to the line's
@@ -37,11 +37,11 @@ impl Ledger {
         })
     }
 
-    /// The placement of this number, if there is one.
+    /// The placement of this number, if there is one. It is found without a search.
     pub(crate) fn placement_of(&self, placement: u64) -> Option<&Placement>
         ensures { option_copied result ≡ placement_of self.now.state.tables placement }
     {
-        self.placements.iter().find(|p| p.number == placement)
+        self.placements.get(placement)
     }
 }
 

@@ -1,6 +1,6 @@
 //! The desk.
 
-ghost use Rattle.std.specs.Prelude.{◌≡◌, ◌≢◌, ◌<◌, ◌≤◌, ◌+◌, ◌-◌, ◌^◌, ℕ, true, [], length, IfOk, IsOk, OnErr, OnOk, Result};
+ghost use Rattle.std.specs.Prelude.{◌≡◌, ◌≢◌, ◌<◌, ◌≤◌, ◌+◌, ◌-◌, ◌^◌, ℕ, true, [], length, is_some, Some, IfOk, IsOk, IsTrue, OnErr, OnOk, Result};
 ghost use Rattle.desk_types.specs.declared.call.Call.{Call};
 ghost use Rattle.desk_types.specs.declared.entry.Fault.{Fault};
 ghost use Rattle.desk_types.specs.Journal.{IsLegal, bytes_of, is_full};
@@ -8,14 +8,15 @@ ghost use Rattle.desk_types.specs.Judged.{judged};
 ghost use Rattle.desk_types.specs.Serving.{HasNoFault, IsSureResult};
 ghost use Rattle.desk_types.specs.Sound.{IsSound};
 ghost use Rattle.desk_types.specs.Step.{answered};
-ghost use Rattle.desk_core.specs.DeskValue.{Answers};
-ghost use Rattle.desk_core.specs.Told.{IsThere, replied};
+ghost use Rattle.desk_types.specs.Tables.{line_of};
+ghost use Rattle.desk_core.specs.DeskValue.{Answers, state};
+ghost use Rattle.desk_core.specs.Told.{IsThere, replied, result_told};
 
 use crate::journal::Journal;
 use crate::ledger::Ledger;
 use crate::stop::Stop;
 use crate::told::Told;
-use desk_types::{Call, Entry, Fault, Reply, Settings};
+use desk_types::{Call, Entry, Fault, Line, Reply, Settings};
 use std::alloc::{AllocError, Global};
 use std::marker::Model;
 
@@ -55,8 +56,8 @@ impl Desk {
     ///
     /// `Ok` is the ledger's answer after the calls of the journal, and the call is then the journal's
     /// last entry. `Fault::JournalFull` comes exactly where the journal has no room for the call, and
-    /// is judged before all else. `Fault::NoMemory` is want of memory, which never comes for a click
-    /// where there is room for an entry. A fault changes nothing. The room falls by one at most, and
+    /// is judged before all else. `Fault::NoMemory` is want of memory, which never comes for a click or
+    /// a credit where there is room for an entry. A fault changes nothing. The room falls by one at most, and
     /// only with an entry.
     pub fn call(&mut self, caller: u64, moment: u64, call: Call) -> Result<Reply, Fault>
         ensures settings { self.new.settings ≡ self.old.settings }
@@ -65,6 +66,28 @@ impl Desk {
             → result ≡ Err (Fault.JournalFull (length self.old.log) (bytes_of self.old.log)) }
         ensures no_keeper { IsSureResult result }
         ensures click { (placement : ℕ) → call ≡ Call.Click placement → 1 ≤ self.old.spare
+            → result ≢ Err Fault.NoMemory }
+        ensures credit { (placement : ℕ) → call ≡ Call.Credit placement → 1 ≤ self.old.spare
+            → result ≢ Err Fault.NoMemory }
+        ensures spare { length self.old.log + self.old.spare ≤ length self.new.log + self.new.spare }
+    {
+        match self.tell(caller, moment, call) {
+            Ok(told) => Ok(self.reply(told)),
+            Err(fault) => Err(fault),
+        }
+    }
+
+    /// Answers a call as `call` does, and tells of what its reply is made, for `reply` to make it where it is wanted.
+    pub(crate) fn tell(&mut self, caller: u64, moment: u64, call: Call) -> Result<Told, Fault>
+        ensures settings { self.new.settings ≡ self.old.settings }
+        ensures answers { Answers caller self.old moment call (result_told (state self.new).tables result) self.new }
+        ensures there { IfOk result (IsThere (state self.new).tables) }
+        ensures full_first { is_full self.old.settings self.old.log call ≡ true
+            → result ≡ Err (Fault.JournalFull (length self.old.log) (bytes_of self.old.log)) }
+        ensures no_keeper { IsSureResult (result_told (state self.new).tables result) }
+        ensures click { (placement : ℕ) → call ≡ Call.Click placement → 1 ≤ self.old.spare
+            → result ≢ Err Fault.NoMemory }
+        ensures credit { (placement : ℕ) → call ≡ Call.Credit placement → 1 ≤ self.old.spare
             → result ≢ Err Fault.NoMemory }
         ensures spare { length self.old.log + self.old.spare ≤ length self.new.log + self.new.spare }
     {
@@ -77,7 +100,15 @@ impl Desk {
             return Err(Fault::NoMemory);
         };
         self.journal.put(caller, moment, call);
-        Ok(self.ledger.reply(told))
+        Ok(told)
+    }
+
+    /// The line of an account and a number that is there.
+    pub(crate) fn line_there(&self, account: u64, line: u64) -> &Line
+        requires { IsTrue (is_some (line_of (state self.now).tables account line)) }
+        ensures { line_of (state self.now).tables account line ≡ Some result.now }
+    {
+        self.ledger.line_there(account, line)
     }
 
     /// Makes room for so many further entries of the journal. Nothing else changes, and nothing at all
@@ -117,6 +148,7 @@ fn answer(ledger: &mut Ledger, journal: &mut Journal, call: &Call) -> Result<Tol
     ensures settings { journal.new.settings ≡ journal.old.settings }
     ensures entries { journal.new.entries ≡ journal.old.entries }
     ensures click { (placement : ℕ) → call.now ≡ Call.Click placement → 1 ≤ journal.old.spare → IsOk result }
+    ensures credit { (placement : ℕ) → call.now ≡ Call.Credit placement → 1 ≤ journal.old.spare → IsOk result }
 {
     let planned = ledger.plan(call);
     journal.reserve(1)?;

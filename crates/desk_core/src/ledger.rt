@@ -1,6 +1,6 @@
 //! The rows of a desk, its settings, its moment and its edition.
 
-ghost use Rattle.std.specs.Prelude.{◌≡◌, ◌≢◌, ℕ, IfErr, IfOk};
+ghost use Rattle.std.specs.Prelude.{◌≡◌, ℕ, IfErr, IfOk};
 ghost use Rattle.desk_types.specs.declared.call.Call.{Call};
 ghost use Rattle.desk_types.specs.State.{empty};
 ghost use Rattle.desk_types.specs.Step.{at_moment};
@@ -11,7 +11,8 @@ use crate::plan::Plan;
 use crate::stop::Stop;
 use accounts::Book;
 use desk_types::limits::MOMENT_MAX;
-use desk_types::{Call, Placement, Settings};
+use desk_types::{Call, Settings};
+use placements::Placements;
 use std::alloc::Global;
 use std::marker::Model;
 
@@ -23,12 +24,10 @@ pub struct Ledger {
     pub(crate) moment: u64,
     pub(crate) edition: u64,
     pub(crate) book: Book,
-    pub(crate) placements: Vec<Placement>,
+    pub(crate) placements: Placements,
 }
 
 impl Model for Ledger {
-    ghost use Rattle.std.specs.Prelude.{◌-◌};
-    ghost use Rattle.std.specs.Vec.{vec_capacity, vec_len};
     ghost use Rattle.desk_core.specs.LedgerValue.{LedgerValue};
 
     ghost Value = { LedgerValue };
@@ -38,12 +37,9 @@ impl Model for Ledger {
         settings = l.settings;
         moment = l.moment;
         edition = l.edition;
-        tables = record l.book.tables { placements = l.placements.items };
+        tables = record l.book.tables { placements = l.placements.rows };
       };
-      spare = record {
-        book = l.book.room;
-        placements = vec_capacity l.placements - vec_len l.placements;
-      };
+      spare = record { book = l.book.room; placements = l.placements.spare };
     } };
 }
 
@@ -57,12 +53,12 @@ impl Ledger {
             moment: 0,
             edition: 0,
             book: Book::new(alloc),
-            placements: Vec::new(alloc),
+            placements: Placements::new(alloc),
         }
     }
 
     pub(crate) fn alloc(&self) -> Global {
-        *self.placements.allocator()
+        self.placements.alloc()
     }
 
     /// Goes to the moment of a call, in seconds, and gives the one before.
@@ -85,14 +81,24 @@ impl Ledger {
     }
 
     /// Judges a call at the moment that the rows have: what it changes and replies, or why it stops. It changes
-    /// nothing, and takes no memory for a click.
+    /// nothing, and takes no memory for a click or a credit.
     pub fn plan(&self, call: &Call) -> Result<Plan, Stop>
         requires sound { IsSound self.now.state }
         ensures planned { IfOk result (IsPlanned self.now.state call.now) }
         ensures stopped { IfErr result (IsStop self.now.state call.now) }
         ensures click { (placement : ℕ) → call.now ≡ Call.Click placement → TakesNoMemory result }
+        ensures credit { (placement : ℕ) → call.now ≡ Call.Credit placement → TakesNoMemory result }
     {
         match call {
+            Call::Credit { placement } => self.plan_credit(*placement),
+            Call::HostReport { day } => self.plan_host_report(*day),
+            Call::Report { account, key, day } => self.plan_report(*account, key, *day),
+            Call::Shown {
+                account,
+                key,
+                day,
+                from,
+            } => self.plan_statement(*account, key, *day, *from),
             Call::Search { text, places } => self.plan_search(text, *places),
             Call::Click { placement } => self.plan_click(*placement),
             _ => self.plan_edit(call),

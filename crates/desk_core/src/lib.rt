@@ -6,6 +6,7 @@
 #![tactic(auto)]
 
 mod click;
+mod credit;
 mod desk;
 mod edit;
 mod eligible;
@@ -15,10 +16,12 @@ mod lookup;
 mod money;
 mod plan;
 mod putting;
+mod reports;
 mod search;
 mod showing;
 mod solo;
 mod stop;
+mod sums;
 mod told;
 
 pub use desk::Desk;

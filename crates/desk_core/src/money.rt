@@ -1,21 +1,22 @@
 //! The money of a campaign on a day.
 
-ghost use Rattle.std.specs.Prelude.{◌≡◌, ◌<◌, ◌^◌, ◌&&◌, nat_lt, filter, find, option_map, sum_by, unwrap_or};
+ghost use Rattle.std.specs.Prelude.{◌≡◌, ◌<◌, ◌^◌, ◌&&◌, nat_lt, filter, find, length, option_map, sum_by, unwrap_or};
 ghost use Rattle.std.specs.List.{list_any};
 ghost use Rattle.desk_types.specs.Day.{day_of as the_day_of};
 ghost use Rattle.desk_types.specs.Eligible.{can_pay};
-ghost use Rattle.desk_types.specs.Money.{budget, is_escrowed, is_latest, is_set_by, is_shown_on, is_spent, used};
+ghost use Rattle.desk_types.specs.Money.{budget, is_latest, is_set_by, is_shown_on, is_spent, used};
 ghost use Rattle.desk_core.specs.Charges.{is_charged};
 
 use crate::ledger::Ledger;
 use desk_types::{BudgetSet, Fate, Line, Placement, day_of};
+use placements::{ShownOn, is_escrowed};
 
 /// A campaign of an account, and a day.
 #[derive(Clone, Copy)]
-struct CampaignDay {
-    account: u64,
-    campaign: u64,
-    day: u64,
+pub(crate) struct CampaignAndDay {
+    pub account: u64,
+    pub campaign: u64,
+    pub day: u64,
 }
 
 impl Ledger {
@@ -23,7 +24,7 @@ impl Ledger {
     pub(crate) fn can_pay(&self, line: &Line) -> bool
         ensures { result ≡ can_pay self.now.state line.now }
     {
-        let today = CampaignDay {
+        let today = CampaignAndDay {
             account: line.account,
             campaign: line.campaign,
             day: day_of(self.moment),
@@ -35,23 +36,27 @@ impl Ledger {
 
     /// The budget of a campaign on a day, in cents.
     #[tactic(auto, unfolding(desk_types::specs::Money::budget))]
-    fn budget(&self, of: CampaignDay) -> u64
+    pub(crate) fn budget(&self, of: CampaignAndDay) -> u64
         ensures { result ≡ budget self.now.state of.account of.campaign of.day }
     {
         latest_amount(self.book.budgets(of.account), of)
     }
 
-    /// What is spent or escrowed of it, in cents.
-    fn used(&self, of: CampaignDay) -> u128
+    /// What is spent or escrowed of it, in cents. Only the account's placements of the day are looked at.
+    pub(crate) fn used(&self, of: CampaignAndDay) -> u128
         ensures sum { result ≡ used self.now.state of.account of.campaign of.day }
         ensures fits { result < 2 ^ 127 }
     {
-        charged(&self.placements, of, self.moment)
+        charged(
+            self.placements.shown_on(of.account, of.day),
+            of,
+            self.moment,
+        )
     }
 }
 
 /// The amount of the campaign's setting of the latest day up to this one, or 0 where it has none.
-fn latest_amount(budgets: &[BudgetSet], of: CampaignDay) -> u64
+fn latest_amount(budgets: &[BudgetSet], of: CampaignAndDay) -> u64
     ensures { result ≡ unwrap_or (option_map (λ b. b.amount) (find (λ b. is_set_by of.account of.campaign of.day b
         && is_latest budgets.now of.account of.campaign of.day b) budgets.now)) 0 }
 {
@@ -62,21 +67,21 @@ fn latest_amount(budgets: &[BudgetSet], of: CampaignDay) -> u64
 }
 
 /// Whether a setting is of this campaign, and of this day or an earlier one.
-fn is_set_by(setting: &BudgetSet, of: CampaignDay) -> bool
+fn is_set_by(setting: &BudgetSet, of: CampaignAndDay) -> bool
     ensures { result ≡ is_set_by of.account of.campaign of.day setting.now }
 {
     setting.account == of.account && setting.campaign == of.campaign && day_of(setting.at) <= of.day
 }
 
 /// Whether no setting of the campaign up to the day is of a later day than this one.
-fn is_latest(setting: &BudgetSet, budgets: &[BudgetSet], of: CampaignDay) -> bool
+fn is_latest(setting: &BudgetSet, budgets: &[BudgetSet], of: CampaignAndDay) -> bool
     ensures { result ≡ is_latest budgets.now of.account of.campaign of.day setting.now }
 {
     !is_replaced(setting, budgets, of)
 }
 
 /// Whether some setting of the campaign up to the day is of a later day than this one.
-fn is_replaced(setting: &BudgetSet, budgets: &[BudgetSet], of: CampaignDay) -> bool
+fn is_replaced(setting: &BudgetSet, budgets: &[BudgetSet], of: CampaignAndDay) -> bool
     ensures { result ≡ list_any (λ other. is_set_by of.account of.campaign of.day other
         && nat_lt (the_day_of setting.now.at) (the_day_of other.at)) budgets.now }
 {
@@ -84,18 +89,19 @@ fn is_replaced(setting: &BudgetSet, budgets: &[BudgetSet], of: CampaignDay) -> b
 }
 
 /// Whether a setting of the campaign up to the day is of a later day than another one.
-fn replaces(other: &BudgetSet, setting: &BudgetSet, of: CampaignDay) -> bool
+fn replaces(other: &BudgetSet, setting: &BudgetSet, of: CampaignAndDay) -> bool
     ensures { result ≡ (is_set_by of.account of.campaign of.day other.now
         && nat_lt (the_day_of setting.now.at) (the_day_of other.now.at)) }
 {
     is_set_by(other, of) && day_of(setting.at) < day_of(other.at)
 }
 
-/// The prices, added up, of the placements of the campaign that were shown on the day and are
-/// spent, or escrowed at the moment.
-fn charged(placements: &[Placement], of: CampaignDay, moment: u64) -> u128
+/// The prices, added up, of those of these placements of the campaign that were shown on the day and are spent, or
+/// escrowed at the moment.
+fn charged(placements: ShownOn<'_>, of: CampaignAndDay, moment: u64) -> u128
+    requires { length placements < 2 ^ 63 }
     ensures sum { result
-        ≡ sum_by (λ p. p.price) (filter (is_charged of.account of.campaign of.day moment) placements.now) }
+        ≡ sum_by (λ p. p.price) (filter (is_charged of.account of.campaign of.day moment) placements.entry) }
     ensures fits { result < 2 ^ 127 }
 {
     let mut sum = 0;
@@ -108,14 +114,14 @@ fn charged(placements: &[Placement], of: CampaignDay, moment: u64) -> u128
 }
 
 /// Whether a placement counts against the budget of the campaign and the day.
-fn is_charged(placement: &Placement, of: CampaignDay, moment: u64) -> bool
+fn is_charged(placement: &Placement, of: CampaignAndDay, moment: u64) -> bool
     ensures { result ≡ is_charged of.account of.campaign of.day moment placement.now }
 {
     is_shown_on(placement, of) && (is_spent(placement.fate) || is_escrowed(placement, moment))
 }
 
 /// Whether a placement is of this campaign and was shown on this day.
-fn is_shown_on(placement: &Placement, of: CampaignDay) -> bool
+pub(crate) fn is_shown_on(placement: &Placement, of: CampaignAndDay) -> bool
     ensures { result ≡ is_shown_on of.account of.campaign of.day placement.now }
 {
     placement.account == of.account
@@ -131,11 +137,4 @@ fn is_spent(fate: Fate) -> bool
         Fate::Open => false,
         Fate::Settled(_) | Fate::Credited(_, _) => true,
     }
-}
-
-/// Whether the price of a placement is escrowed at the moment.
-pub(crate) fn is_escrowed(placement: &Placement, moment: u64) -> bool
-    ensures { result ≡ is_escrowed moment placement.now }
-{
-    placement.fate == Fate::Open && moment < placement.deadline
 }

@@ -1,6 +1,6 @@
 //! Searches.
 
-ghost use Rattle.std.specs.Prelude.{◌≡◌, ◌+◌, ◌≤◌, ℕ, Option, None, length, is_none, map, nat_le, All, IfOk, OnOk, IfErr, IfSome};
+ghost use Rattle.std.specs.Prelude.{◌≡◌, ◌+◌, ◌≤◌, ℕ, Option, None, length, is_none, nat_le, All, IfOk, OnOk, IfErr, IfSome};
 ghost use Rattle.query_words.specs.Limits.{IsWithinLimits};
 ghost use Rattle.query_words.specs.Words.{words_of};
 ghost use Rattle.desk_types.specs.Changes.{placements_for};
@@ -12,6 +12,7 @@ ghost use Rattle.desk_types.specs.Sound.{IsSound};
 ghost use Rattle.rank_core.specs.Ranked.{ranked};
 ghost use Rattle.desk_core.specs.Planned.{IsPlanned, IsStop};
 ghost use Rattle.desk_core.specs.Shown.{HasLine};
+ghost use Rattle.placements.specs.PlacementsValue.{AreNext};
 
 use crate::ledger::Ledger;
 use crate::plan::{Changes, Plan};
@@ -47,6 +48,7 @@ impl Ledger {
         ensures not_refused { OnOk result (judged self.now.state (Call.Search text.now places) ≡ None) }
         ensures placements { IfOk result (λ new. new.items ≡ placements_for self.now.state text.now places) }
         ensures lines { IfOk result (λ new. All (HasLine self.now.state.tables) new.items) }
+        ensures next { IfOk result (λ new. AreNext self.now.state.tables.placements new.items) }
         ensures stopped { IfErr result (IsStop self.now.state (Call.Search text.now places)) }
     {
         let query = words_of(self.alloc(), text)?;
@@ -89,7 +91,7 @@ impl Ledger {
         requires { more ≤ PLACES_MAX }
         ensures { result ≡ nat_le (length self.now.state.tables.placements + more) self.now.state.settings.placements }
     {
-        (self.placements.len() + more) as u64 <= self.settings.placements()
+        self.placements.count() + more as u64 <= self.settings.placements()
     }
 }
 

@@ -24,7 +24,7 @@ impl Ledger {
             → let S = self.now.state in
             new.items ≡ all_placed S entered (length S.tables.placements + 1) (map (λ r. r.ad) page.now)) }
     {
-        let first = self.placements.len() as u64 + 1;
+        let first = self.placements.count() + 1;
         let mut placements = Vec::with_capacity(self.alloc(), page.len())?;
         for (index, ranked) in page.iter().enumerate() {
             let index = index as u64;

@@ -4,6 +4,7 @@ ghost use Rattle.std.specs.Prelude.{◌≡◌};
 ghost use Rattle.desk_core.specs.SoloValue.{AreOwn};
 
 use crate::desk::Desk;
+use crate::told::Told;
 use desk_types::{Call, Fault, Reply, Service, Settings};
 use std::marker::Model;
 
@@ -59,6 +60,13 @@ impl Service for Solo {
     }
 
     fn call(&mut self, moment: u64, call: Call) -> Result<Reply, Fault> {
-        self.desk.call(self.caller, moment, call)
+        match self.desk.tell(self.caller, moment, call) {
+            // A link is copied into the reply here, since each further function would move its 512 bytes again.
+            Ok(Told::Link { account, line }) => {
+                Ok(Reply::Went(self.desk.line_there(account, line).link.copy()))
+            }
+            Ok(told) => Ok(self.desk.reply(told)),
+            Err(fault) => Err(fault),
+        }
     }
 }

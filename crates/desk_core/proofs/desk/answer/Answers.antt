@@ -12,6 +12,11 @@ returns-in_err-make_room-in-Ok-clause-click c = λ placement is spare.
     let ok : false ≡ true = subst IsOk c.in_err-make_room-in-Ok.was (c.make_room.ensures.succeeds (c.in-Ok.ensures.click placement is)) in
     absurd cc
 
+pub returns-in_err-make_room-in-Ok-clause-credit : goal.returns-in_err-make_room-in-Ok-clause-credit
+returns-in_err-make_room-in-Ok-clause-credit c = λ placement is spare.
+    let ok : false ≡ true = subst IsOk c.in_err-make_room-in-Ok.was (c.make_room.ensures.succeeds (c.in-Ok.ensures.credit placement is)) in
+    absurd cc
+
 pub returns-in_ok-make_room-in-Ok-clause-state : goal.returns-in_ok-make_room-in-Ok-clause-state
 returns-in_ok-make_room-in-Ok-clause-state c =
     let changes = c.in-Ok.plan.changes in

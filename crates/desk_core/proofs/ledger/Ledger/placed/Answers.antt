@@ -12,8 +12,8 @@ loop-index-preserved c = λ entered h.
     let S = c.args.self.now.state in
     let page = c.args.page.now in
     let at = c.index-page-index.is in
-    let rows : length c.self.inside.placements.items ≡ length S.tables.placements = ap (λ V. length V.state.tables.placements) c.self.view_is in
-    let next : c.len.result + 1 + i ≡ length S.tables.placements + 1 + i = omega (arith, c.len.ensures, c.self.inside.placements.ok.0, rows) in
+    let rows : length c.self.inside.placements.rows ≡ length S.tables.placements = ap (λ V. length V.state.tables.placements) c.self.view_is in
+    let next : c.count-first.result + 1 + i ≡ length S.tables.placements + 1 + i = omega (arith, c.count-first.ensures.count, rows) in
     let is = c.placement.ensures entered h.different_accounts
     (subst (λ q. Contains entered q.ad) (sym at) (h.entrants i r c.loop-index-test.true))
     (subst (λ q. next_below entered q.ad ≡ q.next) (sym at) (h.nexts i r c.loop-index-test.true))

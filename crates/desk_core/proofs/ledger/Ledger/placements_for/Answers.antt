@@ -1,9 +1,12 @@
-use Rattle.std.proofs.Common.{◌≡◌, ◌∙◌, ◌+◌, ℕ, Bool, List, length, ap, subst, sym}
+use Rattle.std.proofs.Common.{◌≡◌, ◌∙◌, ◌+◌, ◌≤◌, ℕ, Bool, List, length, refl, ap, subst, sym}
+use Rattle.std.specs.List.{All}
 use Rattle.std.specs.Prelude.{nat_le}
 use Rattle.std.proofs.lemmas.Result.{err_from_is_err_and}
 use Rattle.std.proofs.lemmas.List.Elements.{All-same}
 use Rattle.query_words.specs.Words.{words_of}
+use Rattle.desk_types.specs.declared.rows.Placement.{Placement}
 use Rattle.desk_types.specs.Eligible.{entrants_for}
+use Rattle.placements.specs.PlacementsValue.{AreNext}
 use Rattle.desk_types.specs.Judged.{page_of, places_of}
 use Rattle.desk_types.specs.State.{State}
 use Rattle.desk_types.proofs.SecondPrice.{lines_in_range}
@@ -12,6 +15,7 @@ use Rattle.rank_core.specs.Ranked.{ranked}
 use Rattle.rank_core.specs.declared.page.Ranked.{Ranked}
 use Rattle.desk_core.specs.Shown.{AreRankedFrom, CanBePriced, HasLine}
 use Rattle.desk_core.proofs.Pages.{ads_of-ranked, length-ranked, placed-lines, ranked-from, ranked-priced}
+use Rattle.desk_core.proofs.Placements.{placed_next}
 use Rattle.desk_core.proofs.Placing.{ads_of}
 use Rattle.desk_core.proofs.Searching.{search_bad_places, search_full, search_not_refused}
 use Rattle.desk_core.proofs.ledger.Ledger.placements_for.Goals as goal
@@ -69,3 +73,10 @@ pub returns-clause-lines : goal.returns-clause-lines
 returns-clause-lines c =
     let S = c.args.self.now.state in
     All-same (HasLine S.tables) _ _ (returns-clause-placements c) (placed-lines S (words_of c.args.text.now) (length S.tables.placements + 1) (places_of S c.args.places) (lines_in_range c.args.self.now.state c.requires.sound))
+
+pub returns-clause-next : goal.returns-clause-next
+returns-clause-next c =
+    let S = c.args.self.now.state in
+    let past : All (λ (p : Placement). p.shown ≤ S.moment) S.tables.placements = c.requires.sound.past.placements in
+    subst (AreNext S.tables.placements) (sym (returns-clause-placements c))
+    (placed_next S (entrants_for S (words_of c.args.text.now)) S.tables.placements (length S.tables.placements + 1) (page_of S c.args.text.now c.args.places) c.requires.sound.moment past refl)

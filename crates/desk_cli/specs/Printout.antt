@@ -40,8 +40,7 @@ unfoldable pub auction_page_text : AuctionValue → List ℕ
 auction_page_text auction =
     flat_map (entrant_text auction) (page (entrants auction.ads) auction.heading.places) ++ codes "end\n"
 
--- what is said of an auction, of a fault in the lines, of a failed read, of words that no command has, and of a line of
--- a script whose command has no call yet
+-- what is said of an auction, of a fault in the lines, of a failed read, and of words that no command has
 abbrev pub page_printout : AuctionValue → Printout
 page_printout auction = record { text = auction_page_text auction; status = ENDED }
 
@@ -53,9 +52,6 @@ read_fault_printout = record { text = codes "read fault\n"; status = READ_FAULT 
 
 abbrev pub refused_printout : Printout
 refused_printout = record { text = codes "words refused\n"; status = WORDS_REFUSED }
-
-abbrev pub not_built_printout : ℕ → Printout
-not_built_printout number = record { text = codes "not built " ++ (decimal number ++ codes "\n"); status = BAD_LINE }
 
 -- the printout of an auction or of its first fault
 abbrev pub printout_of : Result AuctionValue LineFault → Printout

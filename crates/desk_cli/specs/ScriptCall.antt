@@ -15,10 +15,10 @@ use Rattle.desk_io.specs.SinkView.{SinkView}
 use Rattle.desk_io.specs.SourceView.{SourceView}
 use Rattle.desk_io.specs.declared.numbered_lines.LineFault.TheVariants as line
 use Rattle.script_api.specs.declared.ending.ScriptEnd.{ScriptEnd}
-use Rattle.script_api.specs.declared.ending.ScriptEnd.TheVariants.{Ended, BadLine, LongLine, TooManyLines, NotBuilt, ReadFault, WriteFault, NoMemory}
+use Rattle.script_api.specs.declared.ending.ScriptEnd.TheVariants.{Ended, BadLine, LongLine, TooManyLines, ReadFault, WriteFault, NoMemory}
 use Rattle.script_api.specs.ScriptRun.{EndCause, IsRun, kind_of, script_at}
 use Rattle.desk_cli.specs.declared.status.TheConstants.{ENDED, WRITE_FAULT, NO_MEMORY}
-use Rattle.desk_cli.specs.Printout.{fault_printout, not_built_printout, read_fault_printout}
+use Rattle.desk_cli.specs.Printout.{fault_printout, read_fault_printout}
 use Rattle.desk_cli.specs.Saying.{IsSilent, IsWritten}
 
 -- the input and the output of a call, before or after it
@@ -35,7 +35,6 @@ IsLastSaid sink sink_now Ended status = IsSilent ENDED sink sink_now status
 IsLastSaid sink sink_now (BadLine k) status = IsWritten sink sink_now (fault_printout (line.BadLine k)) status
 IsLastSaid sink sink_now (LongLine k) status = IsWritten sink sink_now (fault_printout (line.LongLine k)) status
 IsLastSaid sink sink_now TooManyLines status = IsWritten sink sink_now (fault_printout line.TooManyLines) status
-IsLastSaid sink sink_now (NotBuilt k) status = IsWritten sink sink_now (not_built_printout k) status
 IsLastSaid sink sink_now ReadFault status = IsWritten sink sink_now read_fault_printout status
 IsLastSaid sink sink_now WriteFault status = IsSilent WRITE_FAULT sink sink_now status
 IsLastSaid sink sink_now NoMemory status = IsSilent NO_MEMORY sink sink_now status

@@ -18,10 +18,11 @@ mod script;
 mod status;
 mod top;
 
+use crate::script::Served;
 use desk_io::{Sink, Source, StdSink, StdSource};
 use std::alloc::Global;
 use std::process::ExitCode;
-use std::{env, io};
+use std::{env, io, mem};
 
 fn main(rt: HostRuntime) -> ExitCode {
     let mut input = StdSource::new(rt.stdin());
@@ -42,7 +43,10 @@ fn status_of<S: Source, T: Sink>(
         Err(error) if error.kind() == io::ErrorKind::OutOfMemory => return status::NO_MEMORY,
         Err(_) => Vec::new(alloc),
     };
-    top::desk_top(alloc, &words, input, output).status
+    let Served { status, desk } = top::desk_top(alloc, &words, input, output);
+    // The process ends here, and gives back its memory as a whole.
+    mem::forget(desk);
+    status
 }
 
 /// The words behind the program's name.

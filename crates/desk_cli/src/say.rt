@@ -58,7 +58,7 @@ pub fn say_fault<T: Sink>(alloc: Global, output: &mut T, fault: LineFault) -> u8
 }
 
 /// Says something of the numbered line.
-pub fn say_line<T: Sink>(alloc: Global, output: &mut T, words: &str, number: u64, status: u8) -> u8
+fn say_line<T: Sink>(alloc: Global, output: &mut T, words: &str, number: u64, status: u8) -> u8
     ensures written { IsWritten (T.sink output.old) (T.sink output.new)
         (record { text = words.now ++ (decimal number ++ codes "\n"); status = status }) result }
     ensures faults { (T.sink output.old).faults ≤ (T.sink output.new).faults }

@@ -6,8 +6,8 @@ ghost use Rattle.desk_types.specs.SettingsValue.{usual};
 ghost use Rattle.desk_core.specs.SoloValue.{AreOwn};
 ghost use Rattle.desk_cli.specs.ScriptCall.{call_at, HoldsThroughout, IsLastSaid, IsScriptServed};
 
-use crate::say::{say, say_fault, say_line};
-use crate::status::{BAD_LINE, ENDED, NO_MEMORY, READ_FAULT, WRITE_FAULT};
+use crate::say::{say, say_fault};
+use crate::status::{ENDED, NO_MEMORY, READ_FAULT, WRITE_FAULT};
 use desk_core::{Desk, Solo};
 use desk_io::{LineFault, Piece, Sink, Source};
 use desk_types::Settings;
@@ -60,7 +60,6 @@ fn say_end<T: Sink>(alloc: Global, output: &mut T, end: ScriptEnd) -> u8
         ScriptEnd::BadLine(number) => say_fault(alloc, output, LineFault::BadLine(number)),
         ScriptEnd::LongLine(number) => say_fault(alloc, output, LineFault::LongLine(number)),
         ScriptEnd::TooManyLines => say_fault(alloc, output, LineFault::TooManyLines),
-        ScriptEnd::NotBuilt(number) => say_line(alloc, output, "not built ", number, BAD_LINE),
         ScriptEnd::ReadFault => say(alloc, output, &[Piece::Text("read fault\n")], READ_FAULT),
     }
 }

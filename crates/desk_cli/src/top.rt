@@ -29,7 +29,6 @@ use std::alloc::Global;
 /// | 4 | a write failed: the output's count of faults rose | - |
 /// | 5 | want of memory, other than in a call of the desk | - |
 /// | 8 | a line in no form, or the end before the heading of an auction | `bad line K` |
-/// | 8 | a line of a script whose command has no call yet | `not built K` |
 /// | 9 | a line of more than 4,096 bytes, or more than 1,000,000 lines or 10,000 ads | `long line K` or `too many lines` |
 pub fn desk_top<S: Source, T: Sink>(
     alloc: Global,

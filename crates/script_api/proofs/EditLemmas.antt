@@ -1,7 +1,7 @@
 -- Another number of fields than a form of an edit has is not in the form.
 use Rattle.std.proofs.Common.{◌≡◌, ◌≢◌, ℕ, List, [], ◌∷◌, length, refl}
 use Rattle.std.specs.Prelude.{None}
-use Rattle.script_api.specs.EditForm.{quality_call, suspend_call, bid_call, pause_call}
+use Rattle.script_api.specs.EditForm.{quality_call, suspend_call, credit_call, budget_call, bid_call, pause_call}
 
 pub quality_else : (fields : List (List ℕ)) → length fields ≢ 3 → quality_call fields ≡ None
 quality_else [] h = refl
@@ -15,6 +15,19 @@ suspend_else [] h = refl
 suspend_else (a0 ∷ []) h = refl
 suspend_else (a0 ∷ a1 ∷ []) h = absurd (h refl)
 suspend_else (a0 ∷ a1 ∷ a2 ∷ more) h = refl
+
+pub credit_else : (fields : List (List ℕ)) → length fields ≢ 1 → credit_call fields ≡ None
+credit_else [] h = refl
+credit_else (a0 ∷ []) h = absurd (h refl)
+credit_else (a0 ∷ a1 ∷ more) h = refl
+
+pub budget_else : (fields : List (List ℕ)) → length fields ≢ 4 → budget_call fields ≡ None
+budget_else [] h = refl
+budget_else (a0 ∷ []) h = refl
+budget_else (a0 ∷ a1 ∷ []) h = refl
+budget_else (a0 ∷ a1 ∷ a2 ∷ []) h = refl
+budget_else (a0 ∷ a1 ∷ a2 ∷ a3 ∷ []) h = absurd (h refl)
+budget_else (a0 ∷ a1 ∷ a2 ∷ a3 ∷ a4 ∷ more) h = refl
 
 pub bid_else : (fields : List (List ℕ)) → length fields ≢ 4 → bid_call fields ≡ None
 bid_else [] h = refl

@@ -1,8 +1,7 @@
 -- Another number of fields than a form has is not in the form.
-use Rattle.std.proofs.Common.{◌≡◌, ◌≢◌, ◌<◌, ℕ, List, [], ◌∷◌, length, refl, arith, false}
+use Rattle.std.proofs.Common.{◌≡◌, ◌≢◌, ◌<◌, ℕ, List, [], ◌∷◌, length, refl, arith}
 use Rattle.std.specs.Prelude.{None}
 use Rattle.script_api.specs.CallForm.{account_call, campaign_call, line_call, negative_call, drop_call, click_call}
-use Rattle.script_api.specs.OtherForm.{is_one_number, is_keyed_number, are_keyed_numbers}
 
 pub account_else : (fields : List (List ℕ)) → length fields ≢ 1 → account_call fields ≡ None
 account_else [] h = refl
@@ -41,23 +40,3 @@ negative_else [] text h = refl
 negative_else (a0 ∷ []) text h = refl
 negative_else (a0 ∷ a1 ∷ []) text h = refl
 negative_else (a0 ∷ a1 ∷ a2 ∷ more) text h = absurd (omega (arith, h))
-
-pub one_number_else : (fields : List (List ℕ)) → length fields ≢ 1 → is_one_number fields ≡ false
-one_number_else [] h = refl
-one_number_else (a0 ∷ []) h = absurd (h refl)
-one_number_else (a0 ∷ a1 ∷ more) h = refl
-
-pub keyed_number_else : (fields : List (List ℕ)) → length fields ≢ 3 → is_keyed_number fields ≡ false
-keyed_number_else [] h = refl
-keyed_number_else (a0 ∷ []) h = refl
-keyed_number_else (a0 ∷ a1 ∷ []) h = refl
-keyed_number_else (a0 ∷ a1 ∷ a2 ∷ []) h = absurd (h refl)
-keyed_number_else (a0 ∷ a1 ∷ a2 ∷ a3 ∷ more) h = refl
-
-pub keyed_numbers_else : (fields : List (List ℕ)) → length fields ≢ 4 → are_keyed_numbers fields ≡ false
-keyed_numbers_else [] h = refl
-keyed_numbers_else (a0 ∷ []) h = refl
-keyed_numbers_else (a0 ∷ a1 ∷ []) h = refl
-keyed_numbers_else (a0 ∷ a1 ∷ a2 ∷ []) h = refl
-keyed_numbers_else (a0 ∷ a1 ∷ a2 ∷ a3 ∷ []) h = absurd (h refl)
-keyed_numbers_else (a0 ∷ a1 ∷ a2 ∷ a3 ∷ a4 ∷ more) h = refl

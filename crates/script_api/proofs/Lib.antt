@@ -4,6 +4,7 @@ pub mod FieldLemmas
 pub mod BarLemmas
 pub mod FormLemmas
 pub mod EditLemmas
+pub mod AskLemmas
 pub mod LineLemmas
 pub mod Spelling
 pub mod Turning

@@ -5,7 +5,8 @@ use Rattle.desk_types.specs.declared.call.Call.TheVariants.{AddAccount, AddCampa
 use Rattle.script_api.specs.Number.{number}
 use Rattle.script_api.specs.LineFields.{fields, unspaced, behind_first, behind_third, behind_fifth}
 use Rattle.script_api.specs.Bar.{cut_at_bar, both}
-use Rattle.script_api.specs.EditForm.{quality_call, suspend_call, bid_call, pause_call}
+use Rattle.script_api.specs.AskForm.{host_call, report_call, shown_call}
+use Rattle.script_api.specs.EditForm.{quality_call, suspend_call, credit_call, budget_call, bid_call, pause_call}
 use Rattle.script_api.specs.declared.command.CallWord.{CallWord}
 use Rattle.script_api.specs.declared.command.CallWord.TheVariants as word
 
@@ -79,11 +80,16 @@ unfoldable pub call_spelled : CallWord → List ℕ → Option Call
 call_spelled word.Account rest = account_call (fields rest)
 call_spelled word.Quality rest = quality_call (fields rest)
 call_spelled word.Suspend rest = suspend_call (fields rest)
+call_spelled word.Credit rest = credit_call (fields rest)
+call_spelled word.Host rest = host_call (fields rest)
 call_spelled word.Campaign rest = campaign_call (fields rest)
+call_spelled word.Budget rest = budget_call (fields rest)
 call_spelled word.Line rest = line_call (fields rest) (unspaced (behind_fifth rest))
 call_spelled word.Bid rest = bid_call (fields rest)
 call_spelled word.Pause rest = pause_call (fields rest)
 call_spelled word.Negative rest = negative_call (fields rest) (unspaced (behind_third rest))
 call_spelled word.Drop rest = drop_call (fields rest)
+call_spelled word.Report rest = report_call (fields rest)
+call_spelled word.Shown rest = shown_call (fields rest)
 call_spelled word.Search rest = search_call (fields rest) (unspaced (behind_first rest))
 call_spelled word.Click rest = click_call (fields rest)

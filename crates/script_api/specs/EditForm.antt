@@ -1,7 +1,7 @@
 -- The calls that the fields of a line spell which change a row that is there.
 use Rattle.std.specs.Prelude.{ℕ, Bool, true, false, if◌then◌else◌, List, [], ◌∷◌, codes, bytes_eq, Option, Some, None}
 use Rattle.desk_types.specs.declared.call.Call.{Call}
-use Rattle.desk_types.specs.declared.call.Call.TheVariants.{SetQuality, Suspend, SetBid, Pause}
+use Rattle.desk_types.specs.declared.call.Call.TheVariants.{SetQuality, Suspend, Credit, SetBudget, SetBid, Pause}
 use Rattle.desk_types.specs.declared.call.Part.{Part}
 use Rattle.desk_types.specs.declared.call.Part.TheVariants.{OfCampaign, OfLine}
 use Rattle.script_api.specs.Number.{number}
@@ -42,6 +42,25 @@ suspend_from _ _ = None
 abbrev pub suspend_call : List (List ℕ) → Option Call
 suspend_call (account ∷ switch ∷ []) = suspend_from (number account) (switch_spelled switch)
 suspend_call _ = None
+
+-- `N`
+abbrev pub credit_from : Option ℕ → Option Call
+credit_from (Some placement) = Some (Credit placement)
+credit_from None = None
+
+abbrev pub credit_call : List (List ℕ) → Option Call
+credit_call (placement ∷ []) = credit_from (number placement)
+credit_call _ = None
+
+-- `A KEY C NUMBER`
+abbrev pub budget_from : List ℕ → Option ℕ → Option ℕ → Option ℕ → Option Call
+budget_from key (Some account) (Some campaign) (Some amount) = Some (SetBudget account key campaign amount)
+budget_from key _ _ _ = None
+
+abbrev pub budget_call : List (List ℕ) → Option Call
+budget_call (account ∷ key ∷ campaign ∷ amount ∷ []) =
+    budget_from key (number account) (number campaign) (number amount)
+budget_call _ = None
 
 -- `A KEY L NUMBER`
 abbrev pub bid_from : List ℕ → Option ℕ → Option ℕ → Option ℕ → Option Call

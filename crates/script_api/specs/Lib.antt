@@ -2,11 +2,12 @@ pub mod Number
 pub mod LineFields
 pub mod Bar
 pub mod Command
+pub mod AskForm
 pub mod EditForm
 pub mod CallForm
 pub mod CallParts
-pub mod OtherForm
 pub mod Script
+pub mod ReportLine
 pub mod ReplyLine
 pub mod ScriptValue
 pub mod ScriptRun

@@ -8,9 +8,10 @@ use Rattle.desk_types.specs.declared.refusal.Refusal.{Refusal}
 use Rattle.desk_types.specs.declared.refusal.Detail.{Detail}
 use Rattle.desk_types.specs.declared.refusal.Detail.TheVariants as detail
 use Rattle.desk_types.specs.declared.reply.Reply.{Reply}
-use Rattle.desk_types.specs.declared.reply.Reply.TheVariants.{Made, Done, Imported, Page, Went, Refused}
+use Rattle.desk_types.specs.declared.reply.Reply.TheVariants.{Made, Done, Credited, HostDay, Imported, Day, ShownRows, Page, Went, Refused}
 use Rattle.desk_types.specs.declared.reply.Spot.{Spot}
 use Rattle.desk_types.specs.Refusal.{name_of, detail_of, field_name}
+use Rattle.script_api.specs.ReportLine.{day_text, host_text, shown_text}
 
 -- the name of the cause for which a text is no pattern
 abbrev pub cause_name : PatternCause → List ℕ
@@ -58,7 +59,11 @@ imported_text first count = codes "imported " ++ (decimal first ++ (codes " " ++
 abbrev pub reply_text : Reply → List ℕ
 reply_text (Made number) = codes "made " ++ decimal number
 reply_text Done = codes "done"
+reply_text (Credited price) = codes "credited " ++ decimal price
+reply_text (HostDay day) = host_text day
 reply_text (Imported first count) = imported_text first count
+reply_text (Day report) = day_text report
+reply_text (ShownRows rows) = shown_text rows
 reply_text (Page spots) = page_text spots
 reply_text (Went link) = codes "went " ++ link
 reply_text (Refused refusal) = refusal_text refusal

@@ -3,33 +3,26 @@ use Rattle.std.specs.Prelude.{ℕ, ◌==◌, not, if◌then◌else◌, List, ◌
 use Rattle.std.specs.Str.{is_utf8}
 use Rattle.desk_types.specs.declared.call.Call.{Call}
 use Rattle.script_api.specs.declared.command.CallWord.{CallWord}
-use Rattle.script_api.specs.declared.command.OtherWord.{OtherWord}
 use Rattle.script_api.specs.declared.line.ScriptLine.{ScriptLine}
-use Rattle.script_api.specs.declared.line.ScriptLine.TheVariants.{Timed, NotBuilt, Bad}
+use Rattle.script_api.specs.declared.line.ScriptLine.TheVariants.{Timed, Bad}
 use Rattle.script_api.specs.Number.{number}
 use Rattle.script_api.specs.LineFields.{fields, unspaced_end, behind_first}
-use Rattle.script_api.specs.Command.{call_named, other_named}
+use Rattle.script_api.specs.Command.{call_named}
 use Rattle.script_api.specs.CallForm.{call_spelled}
-use Rattle.script_api.specs.OtherForm.{is_in_form}
 
 -- a call at its moment
 abbrev pub timed : ℕ → Option Call → ScriptLine
 timed moment (Some call) = Timed moment call
 timed moment None = Bad
 
--- a line by a command of which no call can be made yet
-abbrev pub spelled_by_other : Option OtherWord → List ℕ → ScriptLine
-spelled_by_other (Some word) rest = if is_in_form word (fields rest) then NotBuilt else Bad
-spelled_by_other None rest = Bad
-
 -- a line by its command, with the text behind it
-abbrev pub spelled_by_command : ℕ → Option CallWord → Option OtherWord → List ℕ → ScriptLine
-spelled_by_command moment (Some word) other rest = timed moment (call_spelled word rest)
-spelled_by_command moment None other rest = spelled_by_other other rest
+abbrev pub spelled_by_command : ℕ → Option CallWord → List ℕ → ScriptLine
+spelled_by_command moment (Some word) rest = timed moment (call_spelled word rest)
+spelled_by_command moment None rest = Bad
 
 -- a line by its moment and its command
 abbrev pub spelled_at : Option ℕ → List ℕ → List ℕ → ScriptLine
-spelled_at (Some moment) command rest = spelled_by_command moment (call_named command) (other_named command) rest
+spelled_at (Some moment) command rest = spelled_by_command moment (call_named command) rest
 spelled_at None command rest = Bad
 
 -- a line whose fields are a moment, a command and what the command asks for

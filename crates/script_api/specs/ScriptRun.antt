@@ -11,7 +11,7 @@ use Rattle.desk_io.specs.SinkView.{SinkView}
 use Rattle.desk_io.specs.SourceView.{SourceView}
 use Rattle.desk_io.specs.Writing.{Appends}
 use Rattle.script_api.specs.declared.ending.ScriptEnd.{ScriptEnd}
-use Rattle.script_api.specs.declared.ending.ScriptEnd.TheVariants.{Ended, BadLine, LongLine, TooManyLines, NotBuilt, ReadFault, WriteFault, NoMemory}
+use Rattle.script_api.specs.declared.ending.ScriptEnd.TheVariants.{Ended, BadLine, LongLine, TooManyLines, ReadFault, WriteFault, NoMemory}
 use Rattle.script_api.specs.ReplyLine.{answer_line}
 use Rattle.script_api.specs.ScriptValue.{script_of}
 
@@ -27,7 +27,6 @@ kind_of Ended = ByBytes
 kind_of (BadLine number) = ByBytes
 kind_of (LongLine number) = ByBytes
 kind_of TooManyLines = ByBytes
-kind_of (NotBuilt number) = ByBytes
 kind_of ReadFault = ByRead
 kind_of WriteFault = ByWrite
 kind_of NoMemory = ByMemory

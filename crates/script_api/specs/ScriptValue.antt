@@ -8,7 +8,7 @@ use Rattle.desk_io.specs.declared.numbered_lines.LineFault.TheVariants as fault
 use Rattle.script_api.specs.declared.ending.ScriptEnd.{ScriptEnd}
 use Rattle.script_api.specs.declared.ending.ScriptEnd.TheVariants as end
 use Rattle.script_api.specs.declared.line.ScriptLine.{ScriptLine}
-use Rattle.script_api.specs.declared.line.ScriptLine.TheVariants.{Timed, NotBuilt, Bad}
+use Rattle.script_api.specs.declared.line.ScriptLine.TheVariants.{Timed, Bad}
 use Rattle.script_api.specs.Script.{script_line}
 
 -- the calls of a script with their moments, and how it ends
@@ -19,13 +19,11 @@ pub record ScriptValue : Type 0 where
 -- the call of a line with its moment, where the line spells one
 abbrev pub calls_of : ScriptLine → List (ℕ × Call)
 calls_of (Timed moment call) = (moment, call) ∷ []
-calls_of NotBuilt = []
 calls_of Bad = []
 
 -- how the numbered line ends a script by its form, if it does
 abbrev pub form_end : ℕ → ScriptLine → Option ScriptEnd
 form_end number (Timed moment call) = None
-form_end number NotBuilt = Some (end.NotBuilt number)
 form_end number Bad = Some (end.BadLine number)
 
 -- how a script ends behind all of its lines, or with one that goes past a limit

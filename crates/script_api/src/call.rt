@@ -5,14 +5,17 @@ ghost use Rattle.script_api.specs.LineFields.{fields, unspaced, behind_first, be
 ghost use Rattle.script_api.specs.CallForm.{account_call, campaign_call, line_call, negative_call, drop_call, search_call, click_call, call_spelled, places_spelled};
 ghost use Rattle.script_api.specs.CallParts.{Spells};
 
+use crate::asks::{host_parts, report_parts, shown_parts};
 use crate::bar::texts_round_bar;
 use crate::command::CallWord;
-use crate::edits::{bid_parts, pause_parts, quality_parts, suspend_parts};
+use crate::edits::{
+    bid_parts, budget_parts, credit_parts, pause_parts, quality_parts, suspend_parts,
+};
 use crate::fields::{
     first_field, first_five, first_three, one_field, three_fields, without_spaces,
 };
 use crate::number::number;
-use crate::parts::CallParts;
+use crate::parts::{AdvertiserParts, CallParts, HostParts, LineParts};
 
 /// The call of a command by the text behind it, or `None` where the text is in another form.
 #[tactic(auto, unfolding(crate::specs::CallForm::call_spelled))]
@@ -23,12 +26,17 @@ pub fn read_call(word: CallWord, text: &str) -> Option<CallParts<'_>>
         CallWord::Account => account_parts(text),
         CallWord::Quality => quality_parts(text),
         CallWord::Suspend => suspend_parts(text),
+        CallWord::Credit => credit_parts(text),
+        CallWord::Host => host_parts(text),
         CallWord::Campaign => campaign_parts(text),
+        CallWord::Budget => budget_parts(text),
         CallWord::Line => line_parts(text),
         CallWord::Bid => bid_parts(text),
         CallWord::Pause => pause_parts(text),
         CallWord::Negative => negative_parts(text),
         CallWord::Drop => drop_parts(text),
+        CallWord::Report => report_parts(text),
+        CallWord::Shown => shown_parts(text),
         CallWord::Search => search_parts(text),
         CallWord::Click => click_parts(text),
     }
@@ -40,7 +48,7 @@ fn account_parts(text: &str) -> Option<CallParts<'_>>
     ensures { Spells (account_call (fields text.now)) result }
 {
     let key = one_field(text)?;
-    Some(CallParts::AddAccount { key })
+    Some(CallParts::Host(HostParts::AddAccount { key }))
 }
 
 /// `A KEY NUMBER`
@@ -49,10 +57,12 @@ fn campaign_parts(text: &str) -> Option<CallParts<'_>>
     ensures { Spells (campaign_call (fields text.now)) result }
 {
     let (account, key, budget) = three_fields(text)?;
-    Some(CallParts::AddCampaign {
+    Some(CallParts::Advertiser {
         account: number(account)?,
         key,
-        budget: number(budget)?,
+        parts: AdvertiserParts::AddCampaign {
+            budget: number(budget)?,
+        },
     })
 }
 
@@ -66,14 +76,17 @@ fn line_parts(text: &str) -> Option<CallParts<'_>>
     let campaign = number(campaign)?;
     let bid = number(bid)?;
     let (pattern, headline) = texts_round_bar(without_spaces(rest))?;
-    Some(CallParts::AddLine {
-        account,
-        key,
+    let parts = AdvertiserParts::AddLine(LineParts {
         campaign,
         bid,
         pattern,
         headline,
         link,
+    });
+    Some(CallParts::Advertiser {
+        account,
+        key,
+        parts,
     })
 }
 
@@ -89,11 +102,10 @@ fn negative_parts(text: &str) -> Option<CallParts<'_>>
     if pattern.is_empty() {
         return None;
     }
-    Some(CallParts::AddNegative {
+    Some(CallParts::Advertiser {
         account,
         key,
-        campaign,
-        pattern,
+        parts: AdvertiserParts::AddNegative { campaign, pattern },
     })
 }
 
@@ -103,10 +115,12 @@ fn drop_parts(text: &str) -> Option<CallParts<'_>>
     ensures { Spells (drop_call (fields text.now)) result }
 {
     let (account, key, negative) = three_fields(text)?;
-    Some(CallParts::DropNegative {
+    Some(CallParts::Advertiser {
         account: number(account)?,
         key,
-        negative: number(negative)?,
+        parts: AdvertiserParts::DropNegative {
+            negative: number(negative)?,
+        },
     })
 }
 

@@ -1,13 +1,13 @@
-//! The calls that lines spell which change a row that is there: qualities, suspensions, bids and pauses.
+//! The calls that lines spell which change a row that is there: qualities, suspensions, credits, budgets, bids and pauses.
 
 ghost use Rattle.std.specs.Prelude.{◌≡◌};
 ghost use Rattle.script_api.specs.LineFields.{fields};
-ghost use Rattle.script_api.specs.EditForm.{quality_call, suspend_call, bid_call, pause_call, switch_spelled, part_spelled};
+ghost use Rattle.script_api.specs.EditForm.{quality_call, suspend_call, credit_call, budget_call, bid_call, pause_call, switch_spelled, part_spelled};
 ghost use Rattle.script_api.specs.CallParts.{Spells};
 
-use crate::fields::{five_fields, four_fields, three_fields, two_fields};
+use crate::fields::{five_fields, four_fields, one_field, three_fields, two_fields};
 use crate::number::number;
-use crate::parts::CallParts;
+use crate::parts::{AdvertiserParts, CallParts, HostParts};
 use desk_types::Part;
 
 /// `A L NUMBER`
@@ -16,11 +16,11 @@ pub fn quality_parts(text: &str) -> Option<CallParts<'_>>
     ensures { Spells (quality_call (fields text.now)) result }
 {
     let (account, line, quality) = three_fields(text)?;
-    Some(CallParts::SetQuality {
+    Some(CallParts::Host(HostParts::SetQuality {
         account: number(account)?,
         line: number(line)?,
         quality: number(quality)?,
-    })
+    }))
 }
 
 /// `A on` or `A off`
@@ -29,9 +29,34 @@ pub fn suspend_parts(text: &str) -> Option<CallParts<'_>>
     ensures { Spells (suspend_call (fields text.now)) result }
 {
     let (account, switch) = two_fields(text)?;
-    Some(CallParts::Suspend {
+    Some(CallParts::Host(HostParts::Suspend {
         account: number(account)?,
         suspended: switch_of(switch)?,
+    }))
+}
+
+/// `N`
+#[tactic(auto, using(crate::proofs::EditLemmas::credit_else))]
+pub fn credit_parts(text: &str) -> Option<CallParts<'_>>
+    ensures { Spells (credit_call (fields text.now)) result }
+{
+    let placement = number(one_field(text)?)?;
+    Some(CallParts::Host(HostParts::Credit { placement }))
+}
+
+/// `A KEY C NUMBER`
+#[tactic(auto, using(crate::proofs::EditLemmas::budget_else))]
+pub fn budget_parts(text: &str) -> Option<CallParts<'_>>
+    ensures { Spells (budget_call (fields text.now)) result }
+{
+    let (account, key, campaign, amount) = four_fields(text)?;
+    Some(CallParts::Advertiser {
+        account: number(account)?,
+        key,
+        parts: AdvertiserParts::SetBudget {
+            campaign: number(campaign)?,
+            amount: number(amount)?,
+        },
     })
 }
 
@@ -41,11 +66,13 @@ pub fn bid_parts(text: &str) -> Option<CallParts<'_>>
     ensures { Spells (bid_call (fields text.now)) result }
 {
     let (account, key, line, bid) = four_fields(text)?;
-    Some(CallParts::SetBid {
+    Some(CallParts::Advertiser {
         account: number(account)?,
         key,
-        line: number(line)?,
-        bid: number(bid)?,
+        parts: AdvertiserParts::SetBid {
+            line: number(line)?,
+            bid: number(bid)?,
+        },
     })
 }
 
@@ -55,11 +82,13 @@ pub fn pause_parts(text: &str) -> Option<CallParts<'_>>
     ensures { Spells (pause_call (fields text.now)) result }
 {
     let (account, key, kind, numeral, switch) = five_fields(text)?;
-    Some(CallParts::Pause {
+    Some(CallParts::Advertiser {
         account: number(account)?,
         key,
-        part: part_of(kind, numeral)?,
-        on: switch_of(switch)?,
+        parts: AdvertiserParts::Pause {
+            part: part_of(kind, numeral)?,
+            on: switch_of(switch)?,
+        },
     })
 }
 

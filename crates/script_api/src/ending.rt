@@ -11,8 +11,6 @@ pub enum ScriptEnd {
     LongLine(u64),
     /// A line follows the 1,000,000th.
     TooManyLines,
-    /// The numbered line is in the form of a command that has no call yet.
-    NotBuilt(u64),
     /// A read failed: the input's count of faults rose.
     ReadFault,
     /// A write failed: the output's count of faults rose.

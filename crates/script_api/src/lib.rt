@@ -5,6 +5,7 @@
 //! What answers the calls is left to the crates above.
 #![tactic(auto)]
 
+mod asks;
 mod bar;
 mod call;
 mod command;
@@ -13,9 +14,9 @@ mod ending;
 pub mod fields;
 mod line;
 pub mod number;
-mod other;
 mod parts;
 mod reply_line;
+mod report_line;
 mod run;
 mod serving;
 

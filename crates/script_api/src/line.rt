@@ -1,13 +1,12 @@
 //! What a line of a script spells.
 
 ghost use Rattle.std.specs.Prelude.{◌≡◌, IfOk, MatchOption, Some, None};
-ghost use Rattle.script_api.specs.Script.{script_line, spelled_by_text, spelled_at, spelled_by_other};
+ghost use Rattle.script_api.specs.Script.{script_line, spelled_by_text, spelled_at};
 
 use crate::call::read_call;
-use crate::command::{OtherWord, call_word, other_word};
+use crate::command::call_word;
 use crate::fields::{first_field, without_end_spaces};
 use crate::number::number;
-use crate::other::is_in_form;
 use desk_types::Call;
 use query_words::NoMemory;
 use std::alloc::Global;
@@ -22,8 +21,6 @@ pub enum ScriptLine {
         /// The call.
         call: Call,
     },
-    /// A line in the form of a command of which no call can be made yet.
-    NotBuilt,
     /// The line is in no form.
     Bad,
 }
@@ -52,7 +49,7 @@ fn read_text(alloc: Global, text: &str) -> Result<ScriptLine, NoMemory>
         return Ok(ScriptLine::Bad);
     };
     let Some(word) = call_word(command) else {
-        return Ok(read_other(other_word(command), rest));
+        return Ok(ScriptLine::Bad);
     };
     match read_call(word, rest) {
         Some(parts) => Ok(ScriptLine::Timed {
@@ -72,14 +69,4 @@ fn timed_command(text: &str) -> Option<(u64, &str, &str)>
     let (moment, rest) = first_field(text)?;
     let (command, rest) = first_field(rest)?;
     Some((number(moment)?, command, rest))
-}
-
-/// A line by a command of which no call can be made yet.
-fn read_other(word: Option<OtherWord>, text: &str) -> ScriptLine
-    ensures { result ≡ spelled_by_other word text.now }
-{
-    match word {
-        Some(word) if is_in_form(word, text) => ScriptLine::NotBuilt,
-        _ => ScriptLine::Bad,
-    }
 }

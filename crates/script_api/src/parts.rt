@@ -1,7 +1,7 @@
 //! A call in the parts of a line.
 
 ghost use Rattle.std.specs.Prelude.{◌≡◌, IfOk};
-ghost use Rattle.script_api.specs.CallParts.{call_of};
+ghost use Rattle.script_api.specs.CallParts.{advertiser_call_of, call_of, host_call_of, line_call_of};
 
 use desk_types::{Call, Part};
 use query_words::{NoMemory, Text};
@@ -10,6 +10,24 @@ use std::alloc::Global;
 /// A call as a line spells it: its texts are parts of the line.
 #[derive(Clone, Copy)]
 pub enum CallParts<'a> {
+    Host(HostParts<'a>),
+    Advertiser {
+        account: u64,
+        key: &'a str,
+        parts: AdvertiserParts<'a>,
+    },
+    Search {
+        text: &'a str,
+        places: Option<u64>,
+    },
+    Click {
+        placement: u64,
+    },
+}
+
+/// A call of the host.
+#[derive(Clone, Copy)]
+pub enum HostParts<'a> {
     AddAccount {
         key: &'a str,
     },
@@ -22,50 +40,36 @@ pub enum CallParts<'a> {
         account: u64,
         suspended: bool,
     },
-    AddCampaign {
-        account: u64,
-        key: &'a str,
-        budget: u64,
-    },
-    AddLine {
-        account: u64,
-        key: &'a str,
-        campaign: u64,
-        bid: u64,
-        pattern: &'a str,
-        headline: &'a str,
-        link: &'a str,
-    },
-    SetBid {
-        account: u64,
-        key: &'a str,
-        line: u64,
-        bid: u64,
-    },
-    Pause {
-        account: u64,
-        key: &'a str,
-        part: Part,
-        on: bool,
-    },
-    AddNegative {
-        account: u64,
-        key: &'a str,
-        campaign: u64,
-        pattern: &'a str,
-    },
-    DropNegative {
-        account: u64,
-        key: &'a str,
-        negative: u64,
-    },
-    Search {
-        text: &'a str,
-        places: Option<u64>,
-    },
-    Click {
+    Credit {
         placement: u64,
     },
+    HostReport {
+        day: u64,
+    },
+}
+
+/// What an advertiser asks for, who names an account and its key beside it.
+#[derive(Clone, Copy)]
+pub enum AdvertiserParts<'a> {
+    AddCampaign { budget: u64 },
+    SetBudget { campaign: u64, amount: u64 },
+    AddLine(LineParts<'a>),
+    SetBid { line: u64, bid: u64 },
+    Pause { part: Part, on: bool },
+    AddNegative { campaign: u64, pattern: &'a str },
+    DropNegative { negative: u64 },
+    Report { day: u64 },
+    Shown { day: u64, from: u64 },
+}
+
+/// A line that an advertiser asks for.
+#[derive(Clone, Copy)]
+pub struct LineParts<'a> {
+    pub campaign: u64,
+    pub bid: u64,
+    pub pattern: &'a str,
+    pub headline: &'a str,
+    pub link: &'a str,
 }
 
 impl CallParts<'_> {
@@ -73,11 +77,32 @@ impl CallParts<'_> {
     pub fn call(&self, alloc: Global) -> Result<Call, NoMemory>
         ensures { IfOk result (λ call. call ≡ call_of self.now) }
     {
+        match *self {
+            CallParts::Host(parts) => parts.call(alloc),
+            CallParts::Advertiser {
+                account,
+                key,
+                parts,
+            } => parts.call(alloc, account, Text::new(alloc, key)?),
+            CallParts::Search { text, places } => Ok(Call::Search {
+                text: Text::new(alloc, text)?,
+                places,
+            }),
+            CallParts::Click { placement } => Ok(Call::Click { placement }),
+        }
+    }
+}
+
+impl HostParts<'_> {
+    /// The call of the host.
+    fn call(&self, alloc: Global) -> Result<Call, NoMemory>
+        ensures { IfOk result (λ call. call ≡ host_call_of self.now) }
+    {
         Ok(match *self {
-            CallParts::AddAccount { key } => Call::AddAccount {
+            HostParts::AddAccount { key } => Call::AddAccount {
                 key: Text::new(alloc, key)?,
             },
-            CallParts::SetQuality {
+            HostParts::SetQuality {
                 account,
                 line,
                 quality,
@@ -86,80 +111,78 @@ impl CallParts<'_> {
                 line,
                 quality,
             },
-            CallParts::Suspend { account, suspended } => Call::Suspend { account, suspended },
-            CallParts::AddCampaign {
+            HostParts::Suspend { account, suspended } => Call::Suspend { account, suspended },
+            HostParts::Credit { placement } => Call::Credit { placement },
+            HostParts::HostReport { day } => Call::HostReport { day },
+        })
+    }
+}
+
+impl AdvertiserParts<'_> {
+    /// The call of the advertiser of an account, by its key.
+    fn call(&self, alloc: Global, account: u64, key: Text) -> Result<Call, NoMemory>
+        ensures { IfOk result (λ call. call ≡ advertiser_call_of account key self.now) }
+    {
+        Ok(match *self {
+            AdvertiserParts::AddCampaign { budget } => Call::AddCampaign {
                 account,
                 key,
                 budget,
-            } => Call::AddCampaign {
-                account,
-                key: Text::new(alloc, key)?,
-                budget,
             },
-            CallParts::AddLine {
+            AdvertiserParts::SetBudget { campaign, amount } => Call::SetBudget {
                 account,
                 key,
                 campaign,
-                bid,
-                pattern,
-                headline,
-                link,
-            } => Call::AddLine {
-                account,
-                key: Text::new(alloc, key)?,
-                campaign,
-                bid,
-                pattern: Text::new(alloc, pattern)?,
-                headline: Text::new(alloc, headline)?,
-                link: Text::new(alloc, link)?,
+                amount,
             },
-            CallParts::SetBid {
+            AdvertiserParts::AddLine(parts) => return parts.call(alloc, account, key),
+            AdvertiserParts::SetBid { line, bid } => Call::SetBid {
                 account,
                 key,
                 line,
                 bid,
-            } => Call::SetBid {
-                account,
-                key: Text::new(alloc, key)?,
-                line,
-                bid,
             },
-            CallParts::Pause {
+            AdvertiserParts::Pause { part, on } => Call::Pause {
                 account,
                 key,
                 part,
                 on,
-            } => Call::Pause {
-                account,
-                key: Text::new(alloc, key)?,
-                part,
-                on,
             },
-            CallParts::AddNegative {
+            AdvertiserParts::AddNegative { campaign, pattern } => Call::AddNegative {
                 account,
                 key,
-                campaign,
-                pattern,
-            } => Call::AddNegative {
-                account,
-                key: Text::new(alloc, key)?,
                 campaign,
                 pattern: Text::new(alloc, pattern)?,
             },
-            CallParts::DropNegative {
+            AdvertiserParts::DropNegative { negative } => Call::DropNegative {
                 account,
                 key,
                 negative,
-            } => Call::DropNegative {
+            },
+            AdvertiserParts::Report { day } => Call::Report { account, key, day },
+            AdvertiserParts::Shown { day, from } => Call::Shown {
                 account,
-                key: Text::new(alloc, key)?,
-                negative,
+                key,
+                day,
+                from,
             },
-            CallParts::Search { text, places } => Call::Search {
-                text: Text::new(alloc, text)?,
-                places,
-            },
-            CallParts::Click { placement } => Call::Click { placement },
+        })
+    }
+}
+
+impl LineParts<'_> {
+    /// The call that makes the line for an account, by its key.
+    fn call(&self, alloc: Global, account: u64, key: Text) -> Result<Call, NoMemory>
+        ensures { IfOk result (λ call. call ≡ line_call_of account key self.now) }
+    {
+        Ok(Call::AddLine {
+            account,
+            key,
+            campaign: self.campaign,
+            bid: self.bid,
+            pattern: Text::new(alloc, self.pattern)?,
+            headline: Text::new(alloc, self.headline)?,
+            link: Text::new(alloc, self.link)?,
         })
     }
 }

@@ -4,6 +4,7 @@ ghost use Rattle.std.specs.Prelude.{◌≡◌, ◌++◌, codes, flat_map};
 ghost use Rattle.desk_io.specs.Putting.{Puts};
 ghost use Rattle.script_api.specs.ReplyLine.{answer_line, answer_text, cause_name as name_of_cause, detail_text, fault_text as text_of_fault, imported_text, page_text, refusal_text, reply_text, row_text, spot_text};
 
+use crate::report_line::{put_day, put_host, put_shown};
 use desk_io::{OutBuf, Piece, Sink, WriteFault};
 use desk_types::{Detail, Fault, Refusal, Reply, Spot};
 use match_types::PatternCause;
@@ -55,7 +56,14 @@ fn put_reply<T: Sink>(out: &mut OutBuf, output: &mut T, reply: &Reply) -> Result
     match reply {
         Reply::Made(number) => out.put_all(output, &[Piece::Text("made "), Piece::Number(*number)]),
         Reply::Done => out.put_str(output, "done"),
+        Reply::Credited(price) => out.put_all(
+            output,
+            &[Piece::Text("credited "), Piece::Number(*price)],
+        ),
+        Reply::HostDay(day) => put_host(out, output, day),
         Reply::Imported { first, count } => put_imported(out, output, *first, *count),
+        Reply::Day(report) => put_day(out, output, report),
+        Reply::ShownRows(rows) => put_shown(out, output, rows.as_slice()),
         Reply::Page(spots) => put_page(out, output, spots.as_slice()),
         Reply::Went(link) => out.put_all(
             output,

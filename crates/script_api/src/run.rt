@@ -21,7 +21,7 @@ use std::alloc::Global;
 /// | End | Comes |
 /// |---|---|
 /// | `Ended` | no line ends the script, and nothing is left of the input |
-/// | `BadLine`, `LongLine`, `TooManyLines`, `NotBuilt` | the first line that fails ends the script so |
+/// | `BadLine`, `LongLine`, `TooManyLines` | the first line that fails ends the script so |
 /// | `ReadFault` | a read failed, the input's count of faults rose, and no line read before ends the script |
 /// | `WriteFault` | a write failed, and the output's count of faults rose |
 /// | `NoMemory` | want of memory before the next call |

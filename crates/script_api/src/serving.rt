@@ -130,7 +130,6 @@ impl LineServing {
                 put_answer_line(&mut self.answers, output, &answer)?;
                 Ok(self.end_of_last())
             }
-            Ok(ScriptLine::NotBuilt) => Ok(Some(ScriptEnd::NotBuilt(self.lines.number()))),
             Ok(ScriptLine::Bad) => Ok(Some(ScriptEnd::BadLine(self.lines.number()))),
             Err(_) => Ok(Some(ScriptEnd::NoMemory)),
         }

@@ -51,7 +51,14 @@ const SCRIPTS: [(&str, u8, &str); 7] = [
         "refused BadField Quality;done;done;page 0;done;done;page 0;refused NoLine;refused BadField Bid;",
     ),
     ("# passed over;;1899 search 1", 0, "page 0;"),
-    ("100 host 0;100 click 1;", 8, "not built 4;"),
+    (
+        MONEY,
+        0,
+        "page 1 | 1 1.1.1 5 #1;refused NotSettled;went http://s.example/;credited 5;credited 5;\
+        refused BudgetBelowUsed 5;done;host 0 accounts 1 shown 1 clicks 1 spent 5 escrowed 0 credited 5;\
+        day 0 | 1 budget 5 shown 1 clicks 1 spent 5 escrowed 0 free 0 credited 5;\
+        shown 1 | 1 1 1 1 5 credited;shown 0;refused BadField Day;",
+    ),
     (" 100 click 1;", 8, "bad line 4;"),
     (
         "100 search - shoes;100 click 1;100 click 1;",
@@ -68,6 +75,10 @@ const NEGATIVES: &str =
 const REFUSED: &str =
     "100 campaign 7 secret01 0;100 campaign 1 wrongkey 0;100 campaign 1 secret01 0;\
     100 line 1 secret01 1 50 http://s.example/ shoes | Shoes;100 nothing;";
+
+const MONEY: &str = "100 search - shoes;100 credit 1;100 click 1;100 credit 1;100 credit 1;\
+    100 budget 1 secret01 1 4;100 budget 1 secret01 1 5;100 host 0;100 report 1 secret01 0;\
+    100 shown 1 secret01 0 1;100 shown 1 secret01 0 2;100 host 2932897;";
 
 const EDITS: &str = "100 quality 1 1 101;100 quality 1 1 20;100 suspend 1 on;100 search - shoes;\
     100 suspend 1 off;100 pause 1 secret01 line 1 off;100 search - shoes;\

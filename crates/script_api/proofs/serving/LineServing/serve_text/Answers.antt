@@ -1,6 +1,6 @@
 use Rattle.std.proofs.Common.{◌≡◌, ◌∙◌, Ok, refl, sym, ap, subst}
 use Rattle.std.proofs.lemmas.Result.{err_from_is_err_and}
-use Rattle.script_api.specs.declared.line.ScriptLine.TheVariants.{Timed, NotBuilt, Bad}
+use Rattle.script_api.specs.declared.line.ScriptLine.TheVariants.{Timed, Bad}
 use Rattle.script_api.specs.declared.ending.ScriptEnd.TheVariants as end
 use Rattle.script_api.specs.Script.{script_line}
 use Rattle.script_api.specs.ScriptRun.{script_at}
@@ -22,17 +22,10 @@ returns-in_ok-put_answer_line-in-Ok-Timed-clause-turn g c = λ start source at_l
     subst (λ r. Goes start (midway (script_at (g.V.Service.service c.call-answer.new.self) source (g.T.Sink.sink c.put_answer_line.new.output)) c.args.self.now.lines c.put_answer_line.new.out) (Ok r)) (sym c.end_of_last.ensures)
     (text-answered start _ _ source _ _ c.args.self.now.lines _ _ at_line c.in-Ok-Timed.moment c.in-Ok-Timed.call (sym is) c.call-answer.result c.call-answer.ensures.serves c.in_ok-put_answer_line-in-Ok-Timed.ensures.puts)
 
-pub returns-in-Ok-NotBuilt-clause-turn : goal.returns-in-Ok-NotBuilt-clause-turn
-returns-in-Ok-NotBuilt-clause-turn g c = λ start source at_line.
-    let is : NotBuilt ≡ script_line c.args.self.now.lines.text = rw c.in-Ok-NotBuilt.field-0-is at c.in-Ok-NotBuilt.ensures ∙ ap script_line c.text.ensures in
-    rw c.number.ensures
-    (text-ends start _ (g.V.Service.service c.args.service.now) source _ (g.T.Sink.sink c.args.output.now) c.args.self.now.lines c.args.self.now.answers c.args.self.now.answers at_line (end.NotBuilt c.args.self.now.lines.count)
-    (sym (ap (form_end c.args.self.now.lines.count) is)) refl (λ other. absurd (cc)))
-
 pub returns-in-Ok-Bad-clause-turn : goal.returns-in-Ok-Bad-clause-turn
 returns-in-Ok-Bad-clause-turn g c = λ start source at_line.
     let is : Bad ≡ script_line c.args.self.now.lines.text = rw c.in-Ok-Bad.field-0-is at c.in-Ok-Bad.ensures ∙ ap script_line c.text.ensures in
-    rw c.number-in-Ok-Bad.ensures
+    rw c.number.ensures
     (text-ends start _ (g.V.Service.service c.args.service.now) source _ (g.T.Sink.sink c.args.output.now) c.args.self.now.lines c.args.self.now.answers c.args.self.now.answers at_line (end.BadLine c.args.self.now.lines.count)
     (sym (ap (form_end c.args.self.now.lines.count) is)) refl (λ other. absurd (cc)))
 

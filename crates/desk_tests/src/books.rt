@@ -23,6 +23,9 @@ const TWO: Who = (2, "secret02");
 
 const NOBODY: Who = (9, "secret01");
 
+/// What is used today of the campaign whose budget an edit sets.
+const USED: u64 = 40;
+
 /// A link.
 const LINK: &str = "http://s.example/";
 
@@ -31,6 +34,7 @@ const LINK: &str = "http://s.example/";
 enum Asked {
     Account(&'static str),
     Campaign(Who, u64),
+    Budget(Who, u64, u64),
     Line(Who, u64, u64, &'static str),
     Headline(&'static str),
     Link(&'static str),
@@ -67,6 +71,12 @@ fn edit_of(alloc: Global, asked: Asked) -> Result<Call, AllocError>
             account,
             key: Text::new(alloc, key)?,
             budget,
+        }),
+        Asked::Budget((account, key), campaign, amount) => Ok(Call::SetBudget {
+            account,
+            key: Text::new(alloc, key)?,
+            campaign,
+            amount,
         }),
         Asked::Line(who, campaign, bid, pattern) => {
             line_of(alloc, who, (campaign, bid), [pattern, "Shoes", LINK])
@@ -152,7 +162,7 @@ fn rows_of(alloc: Global, rows: &[RowAsked]) -> Result<List<ImportRow>, AllocErr
 /// Makes an edit at the moment 1.
 fn edit(alloc: Global, book: &mut Book, asked: Asked) -> Result<Reply, EditFault> {
     let call = edit_of(alloc, asked)?;
-    let plan = book.judge(&call, 1)?;
+    let plan = book.judge(&call, 1, USED)?;
     book.make_room(&plan)?;
     Ok(book.commit(plan))
 }
@@ -307,6 +317,37 @@ fn rows_that_are_there_are_changed(rt: HostRuntime) {
         book.line(1, 1).map(|line| (line.quality, line.on)),
         Some((100, false)),
         "quality and switch are the new ones"
+    );
+}
+
+/// Budgets that are set, behind the edits above: an amount below what is used is refused.
+static BUDGETS: &[(Asked, Told)] = &[
+    (Asked::Budget(NOBODY, 9, 0), Told::No(Refusal::NoAccount)),
+    (Asked::Budget(WRONG, 9, 0), Told::No(Refusal::BadKey)),
+    (Asked::Budget(ONE, 9, 0), Told::No(Refusal::NoCampaign)),
+    (
+        Asked::Budget(ONE, 1, 0),
+        Told::No(Refusal::BadField(Field::Budget)),
+    ),
+    (
+        Asked::Budget(ONE, 1, 39),
+        Told::No(Refusal::BudgetBelowUsed(40)),
+    ),
+    (Asked::Budget(ONE, 1, 40), Told::Done),
+    (Asked::Budget(ONE, 1, 50), Told::Done),
+];
+
+#[test]
+fn the_budget_of_a_day_is_replaced(rt: HostRuntime) {
+    let mut book = book_with(&rt, EDITS);
+    for (number, row) in BUDGETS.iter().enumerate() {
+        assert!(rt; answers(rt.alloc(), &mut book, row), "row {number}");
+    }
+    assert_eq!(rt; book.budgets(1).len(), 2, "no setting more");
+    assert_eq!(rt;
+        book.budgets(1).first().map(|setting| setting.amount),
+        Some(50),
+        "the amount is the last one"
     );
 }
 

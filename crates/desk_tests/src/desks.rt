@@ -121,10 +121,10 @@ fn is_replied(reply: &Reply, told: Told) -> bool {
     match reply {
         Reply::Made(number) => matches!(told, Told::Made(wanted) if *number == wanted),
         Reply::Done => matches!(told, Told::Done),
-        Reply::Imported { .. } => false,
         Reply::Page(spots) => is_page(spots.as_slice(), told),
         Reply::Went(link) => matches!(told, Told::Went(wanted) if link.as_str() == wanted),
         Reply::Refused(refusal) => matches!(told, Told::No(wanted) if *refusal == wanted),
+        _ => false,
     }
 }
 

@@ -1,4 +1,4 @@
-//! Tests of the ledger's types, of the book of accounts, of the desk and of scripts, by their public calls.
+//! Tests of the ledger's types, of the book of accounts, of placements, of the desk and of scripts, by their public calls.
 //! They stand here and not in their crates, since a crate with tests is proved twice.
 #![tactic(auto)]
 
@@ -6,6 +6,8 @@
 mod books;
 #[cfg(test)]
 mod desks;
+#[cfg(test)]
+mod fates;
 #[cfg(test)]
 mod scripts;
 #[cfg(test)]

@@ -12,7 +12,6 @@ use std::test::Fail;
 fn spelling(alloc: Global, line: &[u8]) -> Result<String, NoMemory> {
     let mut text = String::new(alloc);
     match read_line(alloc, line)? {
-        ScriptLine::NotBuilt => text.push_str("not built")?,
         ScriptLine::Bad => text.push_str("bad")?,
         ScriptLine::Timed { moment, call } => {
             write!(text, "{moment} ")?;
@@ -31,11 +30,19 @@ fn write_call(out: &mut String, call: &Call) -> Result<(), NoMemory> {
             quality,
         } => write!(out, "quality {account} {line} {quality}"),
         Call::Suspend { account, suspended } => write!(out, "suspend {account} {suspended}"),
+        Call::Credit { placement } => write!(out, "credit {placement}"),
+        Call::HostReport { day } => write!(out, "host {day}"),
         Call::AddCampaign {
             account,
             key,
             budget,
         } => write!(out, "campaign {account} {} {budget}", key.as_str()),
+        Call::SetBudget {
+            account,
+            key,
+            campaign,
+            amount,
+        } => write!(out, "budget {account} {} {campaign} {amount}", key.as_str()),
         Call::AddLine {
             account,
             key,
@@ -76,6 +83,15 @@ fn write_call(out: &mut String, call: &Call) -> Result<(), NoMemory> {
             key,
             negative,
         } => write!(out, "drop {account} {} {negative}", key.as_str()),
+        Call::Report { account, key, day } => {
+            write!(out, "report {account} {} {day}", key.as_str())
+        }
+        Call::Shown {
+            account,
+            key,
+            day,
+            from,
+        } => write!(out, "shown {account} {} {day} {from}", key.as_str()),
         Call::Search {
             text,
             places: Some(places),
@@ -103,7 +119,7 @@ fn check_bad(rt: &(impl Abort + AllocGlobal), lines: &[&[u8]]) -> Result<(), Fai
 }
 
 /// A line, and what it spells.
-const LINES: [(&str, &str); 25] = [
+const LINES: [(&str, &str); 26] = [
     ("0 account k", "0 account k"),
     ("100 campaign 1 k 1000", "100 campaign 1 k 1000"),
     (
@@ -131,10 +147,11 @@ const LINES: [(&str, &str); 25] = [
         "8 pause 1 k OfCampaign(2) false",
     ),
     ("8 pause 1 k line 2 on", "8 pause 1 k OfLine(2) true"),
-    ("1 credit 1", "not built"),
-    ("1 budget 1 k 1 5", "not built"),
-    ("1 report 1 k 0", "not built"),
-    ("1 shown 1 k 0 0", "not built"),
+    ("1 credit 2", "1 credit 2"),
+    ("1 host 3", "1 host 3"),
+    ("1 budget 1 k 2 5", "1 budget 1 k 2 5"),
+    ("1 report 1 k 3", "1 report 1 k 3"),
+    ("1 shown 1 k 3 4", "1 shown 1 k 3 4"),
 ];
 
 #[test]
@@ -143,7 +160,7 @@ fn a_line_in_its_form_spells_its_call(rt: HostRuntime) -> Result<(), Fail> {
 }
 
 /// Lines in no form.
-const BAD_LINES: [&[u8]; 30] = [
+const BAD_LINES: [&[u8]; 33] = [
     b" 7 click 12",
     b"   ",
     b" # a",
@@ -174,6 +191,9 @@ const BAD_LINES: [&[u8]; 30] = [
     b"1 pause 1 k line on 1",
     b"1 pause 1 k account 1 on",
     b"1 import 1 k 1",
+    b"1 host",
+    b"1 report 1 k",
+    b"1 shown 1 k 0",
 ];
 
 #[test]

@@ -5,7 +5,7 @@ ghost use Rattle.std.specs.Prelude.{◌≤◌, [], true};
 use desk_io::{MemSink, MemSource};
 use desk_types::{Call, Fault, Reply, Service};
 use query_words::NoMemory;
-use script_api::ScriptEnd::{self, BadLine, Ended, LongLine, NotBuilt, TooManyLines};
+use script_api::ScriptEnd::{self, BadLine, Ended, LongLine, TooManyLines};
 use script_api::script;
 use std::alloc::Global;
 use std::process::Abort;
@@ -87,7 +87,7 @@ fn check_scripts(
 }
 
 /// A script, how it ends, and its answers.
-const SCRIPTS: [(&[u8], ScriptEnd, &str); 8] = [
+const SCRIPTS: [(&[u8], ScriptEnd, &str); 7] = [
     (b"", Ended, ""),
     (b"1 click 1\n2 click 1\n", Ended, "mj"),
     (b"1 click 1\r\n2 click 1", Ended, "mj"),
@@ -95,7 +95,6 @@ const SCRIPTS: [(&[u8], ScriptEnd, &str); 8] = [
     (b"# a\n\n1 click 1\nclick 1\n2 click 1\n", BadLine(4), "m"),
     (b"1 click 1\r", BadLine(1), ""),
     (b"\xFF\n", BadLine(1), ""),
-    (b"1 click 1\n1 credit 1\n", NotBuilt(2), "m"),
 ];
 
 #[test]

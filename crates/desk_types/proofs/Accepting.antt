@@ -35,7 +35,6 @@ use Rattle.desk_types.specs.Keys.{account_key, batch_key, campaign_key, line_key
 use Rattle.desk_types.specs.Money.{budget, escrowed, is_escrowed, is_set_by, spent, used}
 use Rattle.auction_types.specs.Price.{price}
 use Rattle.desk_types.specs.Refusal.{number_of}
-use Rattle.desk_types.specs.Sound.{IsSound}
 use Rattle.desk_types.specs.State.{State}
 use Rattle.desk_types.specs.Tables.{account_of, batch_of, campaign_of, campaigns_of, has_key, line_of, negative_of, placement_of, put, put_row}
 use Rattle.desk_types.proofs.Budgets.{budget-none}
@@ -51,6 +50,7 @@ use Rattle.desk_types.proofs.Numbering.{group_new, next_last, next_new}
 use Rattle.auction_types.proofs.PriceLemmas.{price-le-bid}
 use Rattle.desk_types.proofs.Puts.{find-put_same, has-find}
 use Rattle.desk_types.proofs.Sound.{sound_put}
+use Rattle.desk_types.proofs.Stable.{IsStable}
 
 -- a table of which no refusal holds
 pub none_holds : (rows : List (Option Refusal)) → first rows ≡ None → Each (λ o. o ≡ None) rows
@@ -90,7 +90,7 @@ none_of_false None h = refl
 none_of_false (Some x) h = absurd cc
 
 -- the next campaign of an account is new, and has no budget setting
-lawful_campaign : (S : State) (account amount : ℕ) → IsSound S → amount ≤ BUDGET_MAX → campaigns_of S.tables account + 1 ≤ CAMPAIGNS_MAX → let number = campaigns_of S.tables account + 1 in
+lawful_campaign : (S : State) (account amount : ℕ) → IsStable S → amount ≤ BUDGET_MAX → campaigns_of S.tables account + 1 ≤ CAMPAIGNS_MAX → let number = campaigns_of S.tables account + 1 in
     AreLawful S (PutCampaign (record { account = account; number = number; on = true }) ∷ PutBudget (record { account = account; campaign = number; at = S.moment; amount = amount }) ∷ [])
 unfolding put spent escrowed
 lawful_campaign S account amount h within room =
@@ -118,7 +118,7 @@ lawful_campaign S account amount h within room =
 below : (a b : ℕ) → nat_lt a b ≡ true → a < b
 below a b h = grind (arith, nat_tests)
 
-lawful_set : (S : State) (account campaign amount : ℕ) → IsSound S → is_some (campaign_of S.tables account campaign) ≡ true → amount ≤ BUDGET_MAX → used_today S account campaign ≤ amount
+lawful_set : (S : State) (account campaign amount : ℕ) → IsStable S → is_some (campaign_of S.tables account campaign) ≡ true → amount ≤ BUDGET_MAX → used_today S account campaign ≤ amount
     → AreLawful S (PutBudget (record { account = account; campaign = campaign; at = S.moment; amount = amount }) ∷ [])
 lawful_set S account campaign amount h there within fits =
     let today = day_of S.moment in (
@@ -148,7 +148,7 @@ amount_in : (amount : ℕ) → is_within BUDGET_MIN BUDGET_MAX amount ≡ true �
 amount_in amount within = grind (arith, nat_tests, within)
 
 -- the line that is made has a bid in range, and is the account's next one
-lawful_line : (S : State) (account : ℕ) (asked : AskedLine) → IsSound S → is_within BID_MIN BID_MAX asked.bid ≡ true → AreLawful S (PutLine (line_made S.tables account asked) ∷ [])
+pub lawful_line : (S : State) (account : ℕ) (asked : AskedLine) → IsStable S → is_within BID_MIN BID_MAX asked.bid ≡ true → AreLawful S (PutLine (line_made S.tables account asked) ∷ [])
 lawful_line S account asked h within =
     let made : Line = line_made S.tables account asked in
     let test = λ (l : Line). l.account == account && l.number == made.number in
@@ -182,7 +182,7 @@ lawful_changed S account number l new is same in_range link =
     }
 
 -- a line that is found is put with a change to it
-lawful_line_found : (S : State) (account number : ℕ) (new : Line → Line) (found : Option Line) → line_of S.tables account number ≡ found → IsSound S
+lawful_line_found : (S : State) (account number : ℕ) (new : Line → Line) (found : Option Line) → line_of S.tables account number ≡ found → IsStable S
     → ((l : Line) → line_key (new l) ≡ line_key l) → ((l : Line) → IsInRange (ad_of l) → IsInRange (ad_of (new l))) → ((l : Line) → (new l).link ≡ l.link)
     → AreLawful S (put_found (λ l. PutLine (new l)) found)
 lawful_line_found S account number new None is h same in_range link = tt
@@ -191,7 +191,7 @@ lawful_line_found S account number new (Some l) is h same in_range link =
     (lawful_changed S account number l (new l) is (same l) (in_range l known.0) (link l), tt)
 
 -- the next account is new
-lawful_account : (S : State) (key : List ℕ) → IsSound S → length S.tables.accounts + 1 ≤ ACCOUNTS_MAX → AreLawful S (PutAccount (record { number = length S.tables.accounts + 1; key = key; suspended = false }) ∷ [])
+lawful_account : (S : State) (key : List ℕ) → IsStable S → length S.tables.accounts + 1 ≤ ACCOUNTS_MAX → AreLawful S (PutAccount (record { number = length S.tables.accounts + 1; key = key; suspended = false }) ∷ [])
 lawful_account S key h room =
     let a : Account = record { number = length S.tables.accounts + 1; key = key; suspended = false } in
     let new = next_new account_key (λ (x : Account). x.number) a S.tables.accounts (λ x. refl) h.numbered.accounts refl in
@@ -221,16 +221,16 @@ lawful_campaign_found S on test (Some c) is =
     let there = found_has campaign_key test S.tables.campaigns c is in
     (record { next = inl there; room = inl there }, tt)
 
-lawful_switched : (S : State) (account : ℕ) (part : Part) (on : Bool) → IsSound S → AreLawful S (switch_of S.tables account part on)
+lawful_switched : (S : State) (account : ℕ) (part : Part) (on : Bool) → IsStable S → AreLawful S (switch_of S.tables account part on)
 lawful_switched S account (OfCampaign campaign) on h = lawful_campaign_found S on _ (campaign_of S.tables account campaign) refl
 lawful_switched S account (OfLine line) on h = lawful_line_found S account line (λ l. record l { on = on }) (line_of S.tables account line) refl h (λ l. refl) (λ l k. k) (λ l. refl)
 
-no_cause : (number : ℕ) (o : Option Refusal) → option_map (λ cause. BadRow number (number_of cause)) o ≡ None → o ≡ None
+pub no_cause : (number : ℕ) (o : Option Refusal) → option_map (λ cause. BadRow number (number_of cause)) o ≡ None → o ≡ None
 no_cause number None h = refl
 no_cause number (Some cause) h = absurd cc
 
 -- the lines of an import, each behind those before it, and then the batch
-lawful_lines : (S : State) (account number : ℕ) (rows : List ImportRow) (b : Batch) → IsSound S → has_key batch_key (batch_key b) S.tables.batches ≡ false → Each (λ o. o ≡ None) (bad_rows S.tables account number rows)
+lawful_lines : (S : State) (account number : ℕ) (rows : List ImportRow) (b : Batch) → IsStable S → has_key batch_key (batch_key b) S.tables.batches ≡ false → Each (λ o. o ≡ None) (bad_rows S.tables account number rows)
     → AreLawful S (map PutLine (lines_made S.tables account rows) ++ PutBatch b ∷ [])
 unfolding put
 lawful_lines S account number [] b h new good = (new, tt)
@@ -241,7 +241,7 @@ lawful_lines S account number (row ∷ rows) b h new good =
     let fits : AreLawful S (PutLine made ∷ []) = lawful_line S account asked h (from_not (is_within BID_MIN BID_MAX row.bid) (not_when _ _ none.1.0)) in
     (fits.0, lawful_lines (changed S (PutLine made)) account (number + 1) rows b (sound_put S (PutLine made) h fits.0) new good.1)
 
-lawful_import : (S : State) (account number : ℕ) (rows : List ImportRow) (found : Option Batch) → batch_of S.tables account number ≡ found → IsSound S → Each (λ o. o ≡ None) (import_rows S.tables account found rows)
+lawful_import : (S : State) (account number : ℕ) (rows : List ImportRow) (found : Option Batch) → batch_of S.tables account number ≡ found → IsStable S → Each (λ o. o ≡ None) (import_rows S.tables account found rows)
     → AreLawful S (import_of S.tables account number rows found)
 lawful_import S account number rows (Some there) is h good = tt
 lawful_import S account number rows None is h good =
@@ -260,7 +260,7 @@ lawful_drop S test None is = tt
 lawful_drop S test (Some n) is = (inl (found_has negative_key test S.tables.negatives n is), tt)
 
 -- a placement whose price is escrowed is settled
-lawful_click : (S : State) (placement : ℕ) (found : Option Placement) → placement_of S.tables placement ≡ found → IsSound S → AreLawful S (settlement S.moment found)
+lawful_click : (S : State) (placement : ℕ) (found : Option Placement) → placement_of S.tables placement ≡ found → IsStable S → AreLawful S (settlement S.moment found)
 lawful_click S placement None is h = tt
 lawful_click S placement (Some p) is h =
     elim (cases_Bool (is_escrowed S.moment p)) [
@@ -290,7 +290,7 @@ record IsPaid (S R : State) (entered : List AdValue) (a : AdValue) : Type 0 wher
   fits : a.bid + used R a.account a.campaign (day_of S.moment) ≤ budget R a.account a.campaign (day_of S.moment)
 
 -- a placement of another account leaves an ad as it is
-still_paid : (S R : State) (entered : List AdValue) (number : ℕ) (a b : AdValue) → IsSound R → R.moment ≡ S.moment → number ≡ length R.tables.placements + 1 → a.account ≢ b.account
+still_paid : (S R : State) (entered : List AdValue) (number : ℕ) (a b : AdValue) → IsStable R → R.moment ≡ S.moment → number ≡ length R.tables.placements + 1 → a.account ≢ b.account
     → IsPaid S R entered b → IsPaid S (changed R (PutPlacement (placed S entered number a))) entered b
 unfolding put budget
 still_paid S R entered number a b h moment next other paid =
@@ -303,7 +303,7 @@ still_paid S R entered number a b h moment next other paid =
     record { price_below = paid.price_below; line = paid.line; fits = omega (arith, shown, free, paid.fits) }
 
 -- the placements of a page, one after another
-lawful_placed : (S R : State) (entered : List AdValue) (number : ℕ) (ads : List AdValue) → IsSound R → R.moment ≡ S.moment → number ≡ length R.tables.placements + 1 → AreApart ads
+lawful_placed : (S R : State) (entered : List AdValue) (number : ℕ) (ads : List AdValue) → IsStable R → R.moment ≡ S.moment → number ≡ length R.tables.placements + 1 → AreApart ads
     → ((a : AdValue) → Has ads a → IsPaid S R entered a) → AreLawful R (map PutPlacement (all_placed S entered number ads))
 unfolding put
 lawful_placed S R entered number [] h moment next apart paid = tt
@@ -318,7 +318,7 @@ lawful_placed S R entered number (a ∷ ads) h moment next apart paid =
           (λ b k. still_paid S R entered number a b h moment next (apart.0 b k) (paid b (inr k))),
     )
 
-lawful_search : (S : State) (text : List ℕ) (places : Option ℕ) → IsSound S → AreLawful S (map PutPlacement (placements_for S text places))
+lawful_search : (S : State) (text : List ℕ) (places : Option ℕ) → IsStable S → AreLawful S (map PutPlacement (placements_for S text places))
 lawful_search S text places h =
     let query = words_of text in
     let entered = entrants_for S query in
@@ -334,7 +334,7 @@ lawful_search S text places h =
       fits = free-pays a.bid _ _ _ fit.paid;
     })
 
-pub lawful_call : (S : State) (call : Call) → IsSound S → judged S call ≡ None → AreLawful S (changes S call)
+pub lawful_call : (S : State) (call : Call) → IsStable S → judged S call ≡ None → AreLawful S (changes S call)
 unfolding changes refusals
 lawful_call S (AddAccount key) h accepts =
     let none = none_holds (refusals S (AddAccount key)) accepts in

@@ -21,7 +21,6 @@ use Rattle.desk_types.specs.Keys.{is_same_key, line_key, placement_key}
 use Rattle.desk_types.specs.LedgerLaws.{ChangesNoRow}
 use Rattle.desk_types.specs.Money.{is_escrowed, is_open}
 use Rattle.desk_types.specs.Run.{run}
-use Rattle.desk_types.specs.Sound.{IsSound}
 use Rattle.desk_types.specs.State.{State}
 use Rattle.desk_types.specs.Step.{accepted, answered, at_moment, step}
 use Rattle.desk_types.specs.Tables.{line_of, placement_of, put, put_all, put_fate}
@@ -32,6 +31,7 @@ use Rattle.desk_types.proofs.Lawful.{GoesOnward, IsGoodLine, IsLawful, changed, 
 use Rattle.desk_types.proofs.Placements.{has_number, remains_put}
 use Rattle.desk_types.proofs.Puts.{FindsKey, find-put, find-put_same, same_key}
 use Rattle.desk_types.proofs.Sound.{sound_later}
+use Rattle.desk_types.proofs.Stable.{IsStable}
 
 -- a click on a placement that is there is accepted
 click_accepted : (S : State) (n : ℕ) (p : Placement) → placement_of S.tables n ≡ Some p → judged S (Click n) ≡ None
@@ -146,7 +146,7 @@ still_over : (moment : ℕ) (p : Placement) (now : Fate) → (now ≡ p.fate) �
 still_over moment p now (inl same) over = ap (λ f. is_escrowed moment (record p { fate = f })) same ∙ over
 still_over moment p now (inr onward) over = is_over moment p now onward
 
-done_put : (S : State) (change : Change) (n : ℕ) (link : List ℕ) → IsSound S → IsLawful S change → IsDone S n link → IsDone (changed S change) n link
+done_put : (S : State) (change : Change) (n : ℕ) (link : List ℕ) → IsStable S → IsLawful S change → IsDone S n link → IsDone (changed S change) n link
 done_put S change n link sound lawful h =
     let stays = remains_put S change n h.p sound lawful h.found in
     let has = link_put S change h.p.account h.p.line link lawful (record { row = h.line; is = h.line_is; same = h.link_is }) in
@@ -248,7 +248,7 @@ repeated S first second n link h =
     let done = over_step now n went.p went.found in
     no_row T second n done.p link done.found (over_later T.moment (max T.moment (min second MOMENT_MAX)) done.p (omega arith) done.over) (link_after now T n done ∙ went.goes)
 
-start_done : (S T : State) (n : ℕ) (link : List ℕ) → IsSound S → IsOver S T n → link_clicked S.tables n ≡ link → IsDone T n link
+start_done : (S T : State) (n : ℕ) (link : List ℕ) → IsStable S → IsOver S T n → link_clicked S.tables n ≡ link → IsDone T n link
 start_done S T n link sound done goes =
     let known = found_all (λ (x : Placement). is_some (line_of S.tables x.account x.line) ≡ true) (λ (x : Placement). x.number == n) S.tables.placements done.before.0 sound.named.placements done.before.1 in
     let line = some_of (line_of S.tables done.before.0.account done.before.0.line) known.0 in
@@ -265,7 +265,7 @@ start_done S T n link sound done goes =
       link_is = sym now ∙ link_after S T n done ∙ goes;
     }
 
-later_answered : (S : State) (between : List Entry) (second n : ℕ) (link : List ℕ) → IsSound S → (answered S (Click n) (judged S (Click n))).reply ≡ Went link → IsSound (answered S (Click n) (judged S (Click n))).state
+later_answered : (S : State) (between : List Entry) (second n : ℕ) (link : List ℕ) → IsStable S → (answered S (Click n) (judged S (Click n))).reply ≡ Went link → IsStable (answered S (Click n) (judged S (Click n))).state
     → ChangesNoRow (run (answered S (Click n) (judged S (Click n))).state between) second n link
 later_answered S between second n link sound h after =
     let went = went_there S n (placement_of S.tables n) link refl h in
@@ -273,7 +273,7 @@ later_answered S between second n link sound h after =
     let start = start_done S T n link sound (over_step S n went.p went.found) went.goes in
     done_again (run T between) second n link (lasts_run (λ U. IsDone U n link) T between (done_lasts n link) after start)
 
-pub later : (S : State) (between : List Entry) (first second n : ℕ) (link : List ℕ) → IsSound S → (step S first (Click n)).reply ≡ Went link → ChangesNoRow (run (step S first (Click n)).state between) second n link
+pub later : (S : State) (between : List Entry) (first second n : ℕ) (link : List ℕ) → IsStable S → (step S first (Click n)).reply ≡ Went link → ChangesNoRow (run (step S first (Click n)).state between) second n link
 unfolding step
 later S between first second n link sound h =
     later_answered (at_moment S first) between second n link (sound_later S first sound) h (sound_step S first (Click n) sound)

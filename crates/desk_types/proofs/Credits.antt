@@ -18,7 +18,6 @@ use Rattle.desk_types.specs.Keys.{placement_key}
 use Rattle.desk_types.specs.LedgerLaws.{RepliesAlone}
 use Rattle.desk_types.specs.Money.{is_open}
 use Rattle.desk_types.specs.Run.{run}
-use Rattle.desk_types.specs.Sound.{IsSound}
 use Rattle.desk_types.specs.State.{State}
 use Rattle.desk_types.specs.Step.{accepted, answered, at_moment, step}
 use Rattle.desk_types.specs.Tables.{placement_of, put, put_all, put_fate}
@@ -28,6 +27,7 @@ use Rattle.desk_types.proofs.Lasting.{Lasts, lasts_run}
 use Rattle.desk_types.proofs.Lawful.{GoesOnward, IsLawful, finds_one}
 use Rattle.desk_types.proofs.Placements.{has_number, remains_put}
 use Rattle.desk_types.proofs.Puts.{FindsKey, find-put_same}
+use Rattle.desk_types.proofs.Stable.{IsStable}
 
 -- the placement of this number is credited, and has this price
 record IsCredited (T : Tables) (n price : ℕ) : Type 0 where
@@ -123,7 +123,7 @@ no_further moment p (became.Credited before at) settled credited is onward =
     let no : became.Credited settled credited ≡ became.Settled before = sym is ∙ onward in
     cc
 
-credited_put : (S : State) (change : Change) (n price : ℕ) → IsSound S → IsLawful S change → IsCredited S.tables n price → IsCredited (put S.tables change) n price
+credited_put : (S : State) (change : Change) (n price : ℕ) → IsStable S → IsLawful S change → IsCredited S.tables n price → IsCredited (put S.tables change) n price
 credited_put S change n price sound lawful h =
     let stays = remains_put S change n h.p sound lawful h.found in
     elim (stays.goes) [
@@ -139,7 +139,7 @@ credited_lasts n price = record {
   edition = λ S edition h. h;
 }
 
-pub credited_later : (S : State) (between : List Entry) (first second n price : ℕ) → IsSound S → (step S first (Credit n)).reply ≡ Credited price
+pub credited_later : (S : State) (between : List Entry) (first second n price : ℕ) → IsStable S → (step S first (Credit n)).reply ≡ Credited price
     → RepliesAlone (run (step S first (Credit n)).state between) second (Credit n) (Credited price)
 credited_later S between first second n price sound answers =
     let S1 : State = (step S first (Credit n)).state in

@@ -21,7 +21,7 @@ use Rattle.desk_types.specs.Day.{day_of}
 use Rattle.desk_types.specs.Eligible.{ad_of}
 use Rattle.desk_types.specs.Keys.{account_key, batch_key, budget_key, campaign_key, is_same_key, line_key, negative_key, placement_key}
 use Rattle.desk_types.specs.Money.{budget, escrowed, is_escrowed, is_shown_on, spent, used}
-use Rattle.desk_types.specs.Sound.{IsSound, StaysWithinBudgets}
+use Rattle.desk_types.specs.Sound.{StaysWithinBudgets}
 use Rattle.desk_types.specs.State.{State}
 use Rattle.desk_types.specs.Tables.{account_of, campaign_of, campaigns_of, has_key, line_of, placement_of, put, put_row}
 use Rattle.desk_types.proofs.Budgets.{budget-put}
@@ -30,6 +30,7 @@ use Rattle.desk_types.proofs.EachRow.{All-from_Each, Each}
 use Rattle.desk_types.proofs.InOrder.{Each-from_All, Ordered-from}
 use Rattle.desk_types.proofs.Numbering.{IsThereOrNext}
 use Rattle.desk_types.proofs.Puts.{Each-put, FindsKey, Ordered, key_same, sum-put_new, sum-put_there}
+use Rattle.desk_types.proofs.Stable.{IsStable}
 
 -- the state with this change put
 abbrev pub changed : State → Change → State
@@ -157,7 +158,7 @@ set_parts ba bc bd a c d h =
     let rest = and_parts (bc == c) (nat_le bd d) first.1 in
     (eqb-true ba a first.0, eqb-true bc c rest.0, grind (arith, nat_tests))
 
-pub within-budget : (S T : State) (b : BudgetSet) → IsSound S → IsCovered S b → T.tables.budgets ≡ put_row budget_key b S.tables.budgets → Ordered budget_key T.tables.budgets
+pub within-budget : (S T : State) (b : BudgetSet) → IsStable S → IsCovered S b → T.tables.budgets ≡ put_row budget_key b S.tables.budgets → Ordered budget_key T.tables.budgets
     → ((a c d : ℕ) → used T a c d ≡ used S a c d) → StaysWithinBudgets T
 within-budget S T b h covered is order same = used_within T (λ a c d.
     elim (budget-put S T b a c d is (Ordered-from budget_key S.tables.budgets h.in_order.budgets) order) [
@@ -182,7 +183,7 @@ shown_parts pa pc pd a c d h =
     let rest = and_parts (pc == c) (pd == d) first.1 in
     (eqb-true pa a first.0, eqb-true pc c rest.0, eqb-true pd d rest.1)
 
-pub within-shown : (S T : State) (p : Placement) → IsSound S → IsPayable S p → T.moment ≡ S.moment → T.tables.placements ≡ put_row placement_key p S.tables.placements
+pub within-shown : (S T : State) (p : Placement) → IsStable S → IsPayable S p → T.moment ≡ S.moment → T.tables.placements ≡ put_row placement_key p S.tables.placements
     → has_key placement_key (placement_key p) S.tables.placements ≡ false → ((a c d : ℕ) → budget T a c d ≡ budget S a c d) → StaysWithinBudgets T
 within-shown S T p h payable moment is new same = used_within T (λ a c d.
     elim (cases_Bool (is_shown_on a c d p)) [
@@ -213,7 +214,7 @@ costs_nothing a c day moment (p ∷ ps) late past =
     omega (arith, sum_by-cons (cost a c day moment) p ps, cost-other a c day moment p (of_no_later_day a c day moment p late past.0), costs_nothing a c day moment ps late past.1)
 
 -- nothing is used of a day that is to come
-pub unused_later : (S : State) (a c day : ℕ) → IsSound S → day_of S.moment < day → used S a c day ≡ 0
+pub unused_later : (S : State) (a c day : ℕ) → IsStable S → day_of S.moment < day → used S a c day ≡ 0
 unused_later S a c day h late =
     used-costs S a c day ∙ costs_nothing a c day S.moment S.tables.placements late (Each-from_All (λ (p : Placement). p.shown ≤ S.moment) S.tables.placements h.past.placements)
 

@@ -34,7 +34,6 @@ use Rattle.desk_types.specs.Judged.{first, judged, page_of, places_of, refusals,
 use Rattle.desk_types.specs.Keys.{budget_key, placement_key}
 use Rattle.desk_types.specs.Money.{budget, escrowed, free, is_escrowed, spent}
 use Rattle.desk_types.specs.MoneyMoves.{CampaignAndDay, IsAffordable, IsEscrowed, IsSettled, may_move_money, money, on_day, prices, settling, with_budget}
-use Rattle.desk_types.specs.Sound.{IsSound}
 use Rattle.desk_types.specs.State.{State}
 use Rattle.desk_types.specs.Step.{accepted, answered, at_moment, step}
 use Rattle.desk_types.specs.Tables.{batch_of, campaign_of, campaigns_of, line_of, negative_of, placement_of, put, put_all, put_fate}
@@ -48,6 +47,7 @@ use Rattle.desk_types.proofs.MoneyMoves.{IsNew, IsQuiet, all_quiet, credited, da
 use Rattle.desk_types.proofs.Refusing.{refused-alone}
 use Rattle.desk_types.proofs.SecondPrice.{IsFit, apart_entrants, fit_entrant, lines_in_range, page_among}
 use Rattle.desk_types.proofs.Sound.{sound_later}
+use Rattle.desk_types.proofs.Stable.{IsStable}
 
 -- the edition is no money
 money-accepted : (S : State) (call : Call) (on : CampaignAndDay) → money (accepted S call) on ≡ money (record S { tables = put_all S.tables (changes S call) }) on
@@ -67,7 +67,7 @@ placed_new : (S : State) (entered : List AdValue) (number : ℕ) (ads : List AdV
 placed_new S entered number [] = tt
 placed_new S entered number (a ∷ ads) = (window_open S.moment, placed_new S entered (number + 1) ads)
 
-search_moves : (S : State) (text : List ℕ) (places : Option ℕ) (judgement : Option Refusal) (spots : List Spot) (on : CampaignAndDay) → IsSound S → (answered S (Search text places) judgement).reply ≡ replies.Page spots
+search_moves : (S : State) (text : List ℕ) (places : Option ℕ) (judgement : Option Refusal) (spots : List Spot) (on : CampaignAndDay) → IsStable S → (answered S (Search text places) judgement).reply ≡ replies.Page spots
     → IsEscrowed (prices on (placements_for S text places)) (money S on) (money (answered S (Search text places) judgement).state on)
 unfolding accepted changes reply
 search_moves S text places (Some refusal) spots on h is = absurd cc
@@ -77,7 +77,7 @@ search_moves S text places None spots on h is =
     (placements_put S S.tables (entrants_for S (words_of text)) (length S.tables.placements + 1) (page_of S text places) h.numbered.placements refl)
     (placed_new S (entrants_for S (words_of text)) (length S.tables.placements + 1) (page_of S text places))
 
-pub shown_law : (S : State) (moment : ℕ) (text : List ℕ) (places : Option ℕ) (spots : List Spot) (on : CampaignAndDay) → IsSound S → let S1 = at_moment S moment in let reached = step S moment (Search text places) in
+pub shown_law : (S : State) (moment : ℕ) (text : List ℕ) (places : Option ℕ) (spots : List Spot) (on : CampaignAndDay) → IsStable S → let S1 = at_moment S moment in let reached = step S moment (Search text places) in
     reached.reply ≡ replies.Page spots → IsEscrowed (prices on (placements_for S1 text places)) (money S1 on) (money reached.state on)
 unfolding step
 shown_law S moment text places spots on h is =
@@ -94,7 +94,7 @@ all_affordable S entered number (a ∷ ads) fit = (
   all_affordable S entered (number + 1) ads (λ b k. fit b (inr k)),
 )
 
-affordable : (S : State) (text : List ℕ) (places : Option ℕ) → IsSound S → All (IsAffordable S) (placements_for S text places)
+affordable : (S : State) (text : List ℕ) (places : Option ℕ) → IsStable S → All (IsAffordable S) (placements_for S text places)
 affordable S text places h =
     let query = words_of text in
     let entered = entrants_for S query in
@@ -103,7 +103,7 @@ affordable S text places h =
     All-from_Each (IsAffordable S) (placements_for S text places) (all_affordable S entered (length S.tables.placements + 1) (page_of S text places)
     (λ a k. fit_entrant S query a in_range (page_among entered (places_of S places) a apart k)))
 
-pub affordable_law : (S : State) (moment : ℕ) (text : List ℕ) (places : Option ℕ) → IsSound S → let S1 = at_moment S moment in All (IsAffordable S1) (placements_for S1 text places)
+pub affordable_law : (S : State) (moment : ℕ) (text : List ℕ) (places : Option ℕ) → IsStable S → let S1 = at_moment S moment in All (IsAffordable S1) (placements_for S1 text places)
 affordable_law S moment text places h = affordable (at_moment S moment) text places (sound_later S moment h)
 
 -- a click
@@ -141,18 +141,18 @@ click_moves S n (Some p) on is =
     subst (IsSettled (prices on (settling S.moment (Some p))) (money S on)) (sym (money-accepted S (Click n) on ∙ ap (λ o. money (record S { tables = put_all S.tables (settlement S.moment o) }) on) is))
     (click_settles S n (Some p) on is)
 
-pub settled_law : (S : State) (moment placement : ℕ) (on : CampaignAndDay) → IsSound S → let S1 = at_moment S moment in
+pub settled_law : (S : State) (moment placement : ℕ) (on : CampaignAndDay) → IsStable S → let S1 = at_moment S moment in
     IsSettled (prices on (settling S1.moment (placement_of S1.tables placement))) (money S1 on) (money (step S moment (Click placement)).state on)
 unfolding step refusals
 settled_law S moment placement on h = let S1 : State = at_moment S moment in click_moves S1 placement (placement_of S1.tables placement) on refl
 
 -- a budget that is set
-days_before : (S : State) → IsSound S → Each (λ (s : BudgetSet). nat_le (day_of s.at) (day_of S.moment) ≡ true) S.tables.budgets
+days_before : (S : State) → IsStable S → Each (λ (s : BudgetSet). nat_le (day_of s.at) (day_of S.moment) ≡ true) S.tables.budgets
 days_before S h =
     Each-mono (λ (s : BudgetSet). s.at ≤ S.moment) (λ (s : BudgetSet). nat_le (day_of s.at) (day_of S.moment) ≡ true) S.tables.budgets (λ s low. day-le s.at S.moment low)
     (Each-from_All (λ (s : BudgetSet). s.at ≤ S.moment) S.tables.budgets h.past.budgets)
 
-put_moves : (S : State) (account campaign amount : ℕ) (on : CampaignAndDay) → IsSound S → let new : BudgetSet = record { account = account; campaign = campaign; at = S.moment; amount = amount } in
+put_moves : (S : State) (account campaign amount : ℕ) (on : CampaignAndDay) → IsStable S → let new : BudgetSet = record { account = account; campaign = campaign; at = S.moment; amount = amount } in
     money (changed S (PutBudget new)) on ≡ with_budget (on_day account campaign (day_of S.moment)) amount on (money S on)
 unfolding put
 put_moves S account campaign amount on h =
@@ -160,13 +160,13 @@ put_moves S account campaign amount on h =
     set S (changed S (PutBudget new)) new on refl refl refl (Ordered-from budget_key S.tables.budgets h.in_order.budgets)
     (Ordered-from budget_key (changed S (PutBudget new)).tables.budgets (StandInOrder-put S.tables (PutBudget new) h.in_order).budgets) (days_before S h)
 
-set_moves : (S : State) (account : ℕ) (key : List ℕ) (campaign amount : ℕ) (judgement : Option Refusal) (on : CampaignAndDay) → IsSound S → (answered S (SetBudget account key campaign amount) judgement).reply ≡ replies.Done
+set_moves : (S : State) (account : ℕ) (key : List ℕ) (campaign amount : ℕ) (judgement : Option Refusal) (on : CampaignAndDay) → IsStable S → (answered S (SetBudget account key campaign amount) judgement).reply ≡ replies.Done
     → money (answered S (SetBudget account key campaign amount) judgement).state on ≡ with_budget (on_day account campaign (day_of S.moment)) amount on (money S on)
 unfolding changes put_all
 set_moves S account key campaign amount (Some refusal) on h is = absurd cc
 set_moves S account key campaign amount None on h is = money-accepted S (SetBudget account key campaign amount) on ∙ put_moves S account campaign amount on h
 
-pub set_law : (S : State) (moment account : ℕ) (key : List ℕ) (campaign amount : ℕ) (on : CampaignAndDay) → IsSound S → let S1 = at_moment S moment in let reached = step S moment (SetBudget account key campaign amount) in
+pub set_law : (S : State) (moment account : ℕ) (key : List ℕ) (campaign amount : ℕ) (on : CampaignAndDay) → IsStable S → let S1 = at_moment S moment in let reached = step S moment (SetBudget account key campaign amount) in
     reached.reply ≡ replies.Done → money reached.state on ≡ with_budget (on_day account campaign (day_of S1.moment)) amount on (money S1 on)
 unfolding step
 set_law S moment account key campaign amount on h is =
@@ -176,7 +176,7 @@ set_law S moment account key campaign amount on h is =
 made_is : (m n : ℕ) → replies.Made m ≡ replies.Made n → m ≡ n
 made_is m n h = cc
 
-made_moves : (S : State) (account : ℕ) (key : List ℕ) (campaign amount : ℕ) (judgement : Option Refusal) (on : CampaignAndDay) → IsSound S → (answered S (AddCampaign account key amount) judgement).reply ≡ replies.Made campaign
+made_moves : (S : State) (account : ℕ) (key : List ℕ) (campaign amount : ℕ) (judgement : Option Refusal) (on : CampaignAndDay) → IsStable S → (answered S (AddCampaign account key amount) judgement).reply ≡ replies.Made campaign
     → money (answered S (AddCampaign account key amount) judgement).state on ≡ with_budget (on_day account campaign (day_of S.moment)) amount on (money S on)
 unfolding changes reply put put_all budget spent escrowed
 made_moves S account key campaign amount (Some refusal) on h is = absurd cc
@@ -186,7 +186,7 @@ made_moves S account key campaign amount None on h is =
     money-accepted S (AddCampaign account key amount) on ∙ moved
     ∙ ap (λ n. with_budget (on_day account n (day_of S.moment)) amount on (money S on)) (made_is number campaign is)
 
-pub made_law : (S : State) (moment account : ℕ) (key : List ℕ) (campaign amount : ℕ) (on : CampaignAndDay) → IsSound S → let S1 = at_moment S moment in let reached = step S moment (AddCampaign account key amount) in
+pub made_law : (S : State) (moment account : ℕ) (key : List ℕ) (campaign amount : ℕ) (on : CampaignAndDay) → IsStable S → let S1 = at_moment S moment in let reached = step S moment (AddCampaign account key amount) in
     reached.reply ≡ replies.Made campaign → money reached.state on ≡ with_budget (on_day account campaign (day_of S1.moment)) amount on (money S1 on)
 unfolding step
 made_law S moment account key campaign amount on h is =

@@ -8,12 +8,12 @@ use Rattle.desk_types.specs.declared.tables.Change.{Change}
 use Rattle.desk_types.specs.declared.tables.Change.TheVariants.{PutPlacement, PutFate}
 use Rattle.desk_types.specs.declared.tables.Tables.{Tables}
 use Rattle.desk_types.specs.Keys.{is_same_key, placement_key}
-use Rattle.desk_types.specs.Sound.{IsSound}
 use Rattle.desk_types.specs.State.{State}
 use Rattle.desk_types.specs.Tables.{has_key, placement_of, put, put_fate}
 use Rattle.desk_types.proofs.Lawful.{GoesOnward, IsLawful, IsOnward, finds_one, found_test}
 use Rattle.desk_types.proofs.Numbering.{next_new}
 use Rattle.desk_types.proofs.Puts.{find-put, has-find, same_key}
+use Rattle.desk_types.proofs.Stable.{IsStable}
 
 -- the placement of this number is this one, but for its fate, which is the same or went onward
 pub record Remains (moment : ℕ) (T : Tables) (n : ℕ) (p : Placement) : Type 0 where
@@ -63,7 +63,7 @@ remains_shown moment T q n p new found =
       | inr t ↦ as_it_was moment (put T (PutPlacement q)) n p (now ∙ cond-false _ (Some q) (placement_of T n) t ∙ found)
     ]
 
-pub remains_put : (S : State) (change : Change) (n : ℕ) (p : Placement) → IsSound S → IsLawful S change → placement_of S.tables n ≡ Some p → Remains S.moment (put S.tables change) n p
+pub remains_put : (S : State) (change : Change) (n : ℕ) (p : Placement) → IsStable S → IsLawful S change → placement_of S.tables n ≡ Some p → Remains S.moment (put S.tables change) n p
 unfolding put
 remains_put S (PutPlacement q) n p sound lawful found =
     remains_shown S.moment S.tables q n p (next_new placement_key (λ (x : Placement). x.number) q S.tables.placements (λ x. refl) sound.numbered.placements lawful.next) found

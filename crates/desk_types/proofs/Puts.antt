@@ -65,7 +65,7 @@ Each-cond : {A : Type 0} (P : A → Type 0) (b : Bool) (xs ys : List A) → Each
 Each-cond P true xs ys h k = h
 Each-cond P false xs ys h k = k
 
-neither : (a b : Bool) → (a || b) ≡ false → (a ≡ false) × (b ≡ false)
+pub neither : (a b : Bool) → (a || b) ≡ false → (a ≡ false) × (b ≡ false)
 neither false b h = (refl, h)
 neither true b h = absurd cc
 
@@ -90,7 +90,7 @@ Each-replaced P key row (r ∷ rows) f h =
       | inr t ↦ subst (Each P) (sym (cond-false _ _ _ t)) (h.0, Each-replaced P key row rows f h.1)
     ]
 
-Each-inserted : {A : Type 0} (P : A → Type 0) (key : A → List ℕ) (row : A) (rows : List A) → P row → Each P rows → Each P (inserted key row rows)
+pub Each-inserted : {A : Type 0} (P : A → Type 0) (key : A → List ℕ) (row : A) (rows : List A) → P row → Each P rows → Each P (inserted key row rows)
 Each-inserted P key row [] is h = (is, tt)
 Each-inserted P key row (r ∷ rows) is h = Each-cond P (is_less_key (key row) (key r)) _ _ (is, h) (h.0, Each-inserted P key row rows is h.1)
 

@@ -26,13 +26,13 @@ use Rattle.desk_types.specs.LedgerLaws.{RepliesAlone}
 use Rattle.desk_types.specs.State.{State}
 use Rattle.desk_types.specs.Step.{accepted, answered, at_moment, next_edition, step}
 use Rattle.desk_types.specs.Run.{run}
-use Rattle.desk_types.specs.Sound.{IsSound}
 use Rattle.desk_types.specs.Tables.{account_of, batch_of, has_key, inserted, placement_of, put, put_all, put_fate, put_row, replaced}
 use Rattle.desk_types.proofs.Accepting.{from_not, none_holds, not_when, some_from}
 use Rattle.desk_types.proofs.Histories.{sound_step}
 use Rattle.desk_types.proofs.Lasting.{Lasts, lasts_run}
 use Rattle.desk_types.proofs.Lawful.{IsGoodAccount, IsLawful, finds_one, finds_two, found_test}
 use Rattle.desk_types.proofs.Puts.{find-put, find-put_same, has-find, put_new, put_there, same_key, stays_there}
+use Rattle.desk_types.proofs.Stable.{IsStable}
 
 -- the batch is there, with these numbers, and the key is the account's
 pub record IsKept (T : Tables) (account : ℕ) (key : List ℕ) (batch from count : ℕ) : Type 0 where
@@ -271,7 +271,7 @@ kept_lasts account key batch from count = record {
   edition = λ S edition h. h;
 }
 
-pub imported_later : (S : State) (between : List Entry) (one two account : ℕ) (key : List ℕ) (batch from count : ℕ) (rows others : List ImportRow) → IsSound S
+pub imported_later : (S : State) (between : List Entry) (one two account : ℕ) (key : List ℕ) (batch from count : ℕ) (rows others : List ImportRow) → IsStable S
     → (step S one (Import account key batch rows)).reply ≡ Imported from count
     → RepliesAlone (run (step S one (Import account key batch rows)).state between) two (Import account key batch others) (Imported from count)
 imported_later S between one two account key batch from count rows others sound answers =

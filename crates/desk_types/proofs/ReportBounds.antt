@@ -18,7 +18,6 @@ use Rattle.desk_types.specs.Day.{day_of}
 use Rattle.desk_types.specs.Keys.{campaign_key, is_less_key}
 use Rattle.desk_types.specs.Money.{budget, is_latest, is_set_by, is_shown_on, is_spent, spent}
 use Rattle.desk_types.specs.Reports.{campaign_day, clicks, credited, host_day, is_credited, shown}
-use Rattle.desk_types.specs.Sound.{IsSound}
 use Rattle.desk_types.specs.State.{State}
 use Rattle.desk_types.proofs.Costs.{sum_by-filter}
 use Rattle.desk_types.proofs.EachRow.{Each}
@@ -26,13 +25,14 @@ use Rattle.desk_types.proofs.InOrder.{Ordered-from}
 use Rattle.desk_types.proofs.Lawful.{found_all, within_used}
 use Rattle.desk_types.proofs.Numbering.{length_kept}
 use Rattle.desk_types.proofs.Puts.{Ordered}
+use Rattle.desk_types.proofs.Stable.{IsStable}
 
 -- a budget is at most the greatest
 amount_bound : (test : BudgetSet → Bool) (bs : List BudgetSet) (found : Option BudgetSet) → find test bs ≡ found → All (λ b. b.amount ≤ BUDGET_MAX) bs → unwrap_or (option_map (λ b. b.amount) found) 0 ≤ BUDGET_MAX
 amount_bound test bs None is within = omega arith
 amount_bound test bs (Some b) is within = (found_all (λ (b : BudgetSet). b.amount ≤ BUDGET_MAX) test bs b within is).0
 
-pub budget_bound : (S : State) (a c d : ℕ) → IsSound S → budget S a c d ≤ BUDGET_MAX
+pub budget_bound : (S : State) (a c d : ℕ) → IsStable S → budget S a c d ≤ BUDGET_MAX
 unfolding budget
 budget_bound S a c d h = amount_bound (λ b. is_set_by a c d b && is_latest S.tables.budgets a c d b) S.tables.budgets _ refl h.within_limits.budgets
 
@@ -61,7 +61,7 @@ pub record IsBounded (count : ℕ) (r : CampaignDay) : Type 0 where
   pub used : r.spent + r.escrowed ≤ r.budget
   pub credited : r.credited ≤ BUDGET_MAX
 
-pub campaign_bounded : (S : State) (day : ℕ) (c : Campaign) → IsSound S → IsBounded (length S.tables.placements) (campaign_day S day c)
+pub campaign_bounded : (S : State) (day : ℕ) (c : Campaign) → IsStable S → IsBounded (length S.tables.placements) (campaign_day S day c)
 unfolding campaign_day
 campaign_bounded S day c h =
     let top = budget_bound S c.account c.number day h in
@@ -140,7 +140,7 @@ sum_map f row [] = refl
 sum_map f row (c ∷ cs) = omega (arith, sum_map f row cs, sum_by-cons f (row c) (map row cs), sum_by-cons (λ x. f (row x)) c cs)
 
 -- the campaigns are those of the accounts
-campaign_count : (S : State) → IsSound S → S.tables.campaigns ≡ flat_map (λ account. filter (λ (c : Campaign). c.account == account) S.tables.campaigns) (range_with_len 1 (length S.tables.accounts))
+campaign_count : (S : State) → IsStable S → S.tables.campaigns ≡ flat_map (λ account. filter (λ (c : Campaign). c.account == account) S.tables.campaigns) (range_with_len 1 (length S.tables.accounts))
     → length S.tables.campaigns ≤ ACCOUNTS_MAX * CAMPAIGNS_MAX
 campaign_count S h is =
     let own : ℕ → List Campaign = λ account. filter (λ (c : Campaign). c.account == account) S.tables.campaigns in
@@ -167,7 +167,7 @@ pub record IsHostBounded (count : ℕ) (r : HostDay) : Type 0 where
   pub escrowed : r.escrowed ≤ ACCOUNTS_MAX * CAMPAIGNS_MAX * BUDGET_MAX
   pub credited : r.credited ≤ ACCOUNTS_MAX * CAMPAIGNS_MAX * BUDGET_MAX
 
-pub host_bounded : (S : State) (day : ℕ) → IsSound S → S.tables.campaigns ≡ flat_map (λ account. filter (λ (c : Campaign). c.account == account) S.tables.campaigns) (range_with_len 1 (length S.tables.accounts))
+pub host_bounded : (S : State) (day : ℕ) → IsStable S → S.tables.campaigns ≡ flat_map (λ account. filter (λ (c : Campaign). c.account == account) S.tables.campaigns) (range_with_len 1 (length S.tables.accounts))
     → IsHostBounded (length S.tables.placements) (host_day S day)
 unfolding campaign_day
 host_bounded S day h is =

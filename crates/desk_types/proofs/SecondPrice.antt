@@ -17,10 +17,10 @@ use Rattle.auction_types.proofs.Entrants.{entrant_of, entrants-apart}
 use Rattle.auction_types.proofs.Members.{Has, SameCounts-Has, SameCounts-sym}
 use Rattle.auction_types.proofs.OrderLemmas.{better-irreflexive}
 use Rattle.auction_types.proofs.Ranking.{IsRanked, page-ranking}
-use Rattle.desk_types.specs.Sound.{IsSound}
 use Rattle.desk_types.specs.Tables.{line_of}
 use Rattle.desk_types.proofs.EachRow.{All-from_Each, Each}
 use Rattle.desk_types.proofs.InOrder.{Each-from_All}
+use Rattle.desk_types.proofs.Stable.{IsStable}
 
 -- what is known of an ad that competes: its bid and quality are in range, it meets reserve and floor, and it can be paid
 pub record IsFit (S : State) (a : AdValue) : Type 0 where
@@ -123,7 +123,7 @@ line_there S query (l ∷ ls) a h =
 pub entrant_line : (S : State) (query : List (List ℕ)) (a : AdValue) → Has (entrants_for S query) a → is_some (line_of S.tables a.account a.line) ≡ true
 entrant_line S query a h = line_there S query S.tables.lines a (entrant_of (eligible_ads S query) a h).0
 
-pub lines_in_range : (S : State) → IsSound S → LinesInRange S
+pub lines_in_range : (S : State) → IsStable S → LinesInRange S
 lines_in_range S h = Each-from_All (λ (l : Line). IsInRange (ad_of l)) S.tables.lines h.in_range
 
 each_eligible : (S : State) (query : List (List ℕ)) (ls : List Line) → Each (λ l. IsInRange (ad_of l)) ls → Each IsInRange (map ad_of (filter (is_eligible S query) ls))

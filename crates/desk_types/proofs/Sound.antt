@@ -17,7 +17,7 @@ use Rattle.desk_types.specs.Eligible.{ad_of}
 use Rattle.desk_types.specs.Keys.{account_key, batch_key, budget_key, campaign_key, line_key, negative_key, placement_key}
 use Rattle.desk_types.specs.Money.{budget, escrowed, spent}
 use Rattle.desk_types.specs.SettingsValue.{SettingsValue}
-use Rattle.desk_types.specs.Sound.{AreInOrder, AreNumbered, AreWithinLimits, IsPast, IsSound, NamesAreThere, StandInOrder, StaysWithinBudgets}
+use Rattle.desk_types.specs.Sound.{AreInOrder, AreNumbered, StandInOrder, StaysWithinBudgets}
 use Rattle.desk_types.specs.State.{State, empty}
 use Rattle.desk_types.specs.Step.{at_moment}
 use Rattle.desk_types.specs.Tables.{campaign_of, has_key, line_of, no_rows, placement_of, put, put_all, put_fate, put_row}
@@ -26,6 +26,7 @@ use Rattle.desk_types.proofs.InOrder.{Ordered-from, StandInOrder-put}
 use Rattle.desk_types.proofs.Lawful.{All-put, AreLawful, IsLawful, IsOnward, changed, finds_two, found_all, found_has, found_test, used-onward, used_within, within-budget, within-shown, within_used}
 use Rattle.desk_types.proofs.Numbering.{groups-put, groups-within, next_new, numbers-put}
 use Rattle.desk_types.proofs.Puts.{length-within, stays_there}
+use Rattle.desk_types.proofs.Stable.{AreWithinLimits, IsPast, IsStable, NamesAreThere}
 
 -- the numbers run on
 numbered-fate : (T : Tables) (number : ℕ) (fate : Fate) (found : Option Placement) → placement_of T number ≡ found → AreNumbered T → AreNumbered (put_fate T fate found)
@@ -166,7 +167,7 @@ budgets-fate S number fate (Some p) is h onward =
     let same : p.number ≡ number = eqb-true p.number number (found_test (λ (x : Placement). x.number == number) S.tables.placements p is) in
     used_within T (λ a c d. omega (arith, used-onward S T number p fate a c d is same onward refl refl, within_used S h a c d))
 
-budgets-put : (S : State) (change : Change) → IsSound S → IsLawful S change → StaysWithinBudgets (changed S change)
+budgets-put : (S : State) (change : Change) → IsStable S → IsLawful S change → StaysWithinBudgets (changed S change)
 unfolding put budget spent escrowed
 budgets-put S (PutBudget b) h lawful =
     within-budget S (changed S (PutBudget b)) b h lawful refl (Ordered-from budget_key (put_row budget_key b S.tables.budgets) (StandInOrder-put S.tables (PutBudget b) h.in_order).budgets) (λ a c d. refl)
@@ -175,7 +176,7 @@ budgets-put S (PutPlacement p) h lawful =
 budgets-put S (PutFate number fate) h lawful = budgets-fate S number fate (placement_of S.tables number) refl h.within_budgets lawful
 budgets-put S change h lawful = h.within_budgets
 
-pub sound_put : (S : State) (change : Change) → IsSound S → IsLawful S change → IsSound (changed S change)
+pub sound_put : (S : State) (change : Change) → IsStable S → IsLawful S change → IsStable (changed S change)
 sound_put S change h lawful = record {
   moment = h.moment;
   in_order = StandInOrder-put S.tables change h.in_order;
@@ -187,13 +188,13 @@ sound_put S change h lawful = record {
   within_budgets = budgets-put S change h lawful;
 }
 
-pub sound_put_all : (S : State) (changes : List Change) → IsSound S → AreLawful S changes → IsSound (record S { tables = put_all S.tables changes })
+pub sound_put_all : (S : State) (changes : List Change) → IsStable S → AreLawful S changes → IsStable (record S { tables = put_all S.tables changes })
 unfolding put_all
 sound_put_all S [] h lawful = h
 sound_put_all S (c ∷ cs) h lawful = sound_put_all (changed S c) cs (sound_put S c h lawful.0) lawful.1
 
 -- as time passes, less is escrowed
-pub sound_later : (S : State) (moment : ℕ) → IsSound S → IsSound (at_moment S moment)
+pub sound_later : (S : State) (moment : ℕ) → IsStable S → IsStable (at_moment S moment)
 unfolding budget
 sound_later S moment h =
     let now = max S.moment (min moment MOMENT_MAX) in
@@ -212,7 +213,7 @@ sound_later S moment h =
           omega (arith, within_used S h.within_budgets a c d, used-costs S a c d, used-costs (at_moment S moment) a c d, sum_by-less (cost a c d now) (cost a c d S.moment) S.tables.placements (λ p. cost-later a c d S.moment now p (omega arith))));
     }
 
-pub sound_edition : (S : State) (edition : ℕ) → IsSound S → IsSound (record S { edition = edition })
+pub sound_edition : (S : State) (edition : ℕ) → IsStable S → IsStable (record S { edition = edition })
 unfolding budget spent escrowed
 sound_edition S edition h = record {
   moment = h.moment;
@@ -228,7 +229,7 @@ sound_edition S edition h = record {
 none_in_order : {A : Type 0} (key : A → List ℕ) → AreInOrder key []
 none_in_order {A} key i j d low high = absurd (omega (arith, high))
 
-pub sound_empty : (settings : SettingsValue) → IsSound (empty settings)
+pub sound_empty : (settings : SettingsValue) → IsStable (empty settings)
 unfolding budget spent escrowed
 sound_empty settings = record {
   moment = omega arith;

@@ -17,12 +17,16 @@ abbrev pub is_latest : List BudgetSet → ℕ → ℕ → ℕ → BudgetSet → 
 is_latest budgets account campaign day b =
     not (list_any (λ other. is_set_by account campaign day other && nat_lt (day_of b.at) (day_of other.at)) budgets)
 
--- the budget: the amount of the campaign's setting of the latest day up to this one, or 0 where it has none
-unfoldable pub budget : State → ℕ → ℕ → ℕ → ℕ
-budget S account campaign day =
-    let bs = S.tables.budgets in
+-- the budget by these settings: the amount of the campaign's setting of the latest day up to this one, or 0 where it has
+-- none
+abbrev pub budget_in : List BudgetSet → ℕ → ℕ → ℕ → ℕ
+budget_in budgets account campaign day =
     unwrap_or (option_map (λ b. b.amount)
-    (find (λ b. is_set_by account campaign day b && is_latest bs account campaign day b) bs)) 0
+    (find (λ b. is_set_by account campaign day b && is_latest budgets account campaign day b) budgets)) 0
+
+-- the budget of a campaign on a day
+unfoldable pub budget : State → ℕ → ℕ → ℕ → ℕ
+budget S account campaign day = budget_in S.tables.budgets account campaign day
 
 -- whether a placement is of this campaign and was shown on this day
 abbrev pub is_shown_on : ℕ → ℕ → ℕ → Placement → Bool

@@ -15,12 +15,15 @@ ghost use Rattle.desk_types.specs.declared.rows.Account.{Account};
 ghost use Rattle.desk_types.specs.declared.rows.Campaign.{Campaign};
 ghost use Rattle.desk_types.specs.declared.rows.Line.{Line};
 ghost use Rattle.desk_types.specs.declared.rows.Placement.{Placement};
+ghost use Rattle.desk_types.specs.declared.tables.Tables.{Tables};
 ghost use Rattle.desk_types.specs.Changes.{link_clicked, placements_for};
 ghost use Rattle.desk_types.specs.Day.{day_of};
 ghost use Rattle.desk_types.specs.Judged.{first};
 ghost use Rattle.desk_types.specs.MoneyMoves.{CampaignAndDay, IsAffordable, IsEscrowed, IsFreed, IsSettled, expiring, may_move_money, money, on_day, prices, settling, with_budget};
 ghost use Rattle.desk_types.specs.Own.{account_named, rows_of};
-ghost use Rattle.desk_types.specs.SettingsValue.{SettingsValue};
+ghost use Rattle.desk_types.specs.Opening.{opened};
+ghost use Rattle.desk_types.specs.Rules.{AreSound};
+ghost use Rattle.desk_types.specs.SettingsValue.{AreInRange, SettingsValue};
 ghost use Rattle.desk_types.specs.State.{State, empty, catalogue};
 ghost use Rattle.desk_types.specs.Step.{step, at_moment};
 ghost use Rattle.desk_types.specs.Tables.{account_of, campaign_of, line_of, placement_of};
@@ -30,10 +33,12 @@ ghost use Rattle.desk_types.specs.Sound.{IsSound, StandInOrder, StaysWithinBudge
 ghost use Rattle.desk_types.specs.Journal.{IsBefore, IsLegal, IsRise, is_full};
 ghost use Rattle.desk_types.specs.LedgerLaws.{IsPageAnswered, ChangesNoRow, RepliesAlone};
 
-/// A state without rows is sound, and a sound state stays so, whatever entries come and as time passes.
+/// A state without rows is sound, and tables that break no rule make a sound state. A sound state stays sound, whatever
+/// entries come, where its settings are in range, and as time passes.
 pub fn sound_states_stay_sound()
     ensures empty { (settings : SettingsValue) → IsSound (empty settings) }
-    ensures run { (S : State) (entries : List Entry) → IsSound S → IsSound (run S entries) }
+    ensures opened { (settings : SettingsValue) (T : Tables) → AreSound T → IsSound (opened settings T) }
+    ensures run { (S : State) (entries : List Entry) → AreInRange S.settings → IsSound S → IsSound (run S entries) }
     ensures later { (S : State) (moment : ℕ) → IsSound S → IsSound (at_moment S moment) }
 {}
 

@@ -1,0 +1,13 @@
+pub mod Anywhere
+pub mod BatchLines
+pub mod Climbing
+pub mod DayCharges
+pub mod FirstBad
+pub mod KeptTables
+pub mod LastRows
+pub mod LatestBudget
+pub mod Numbered
+pub mod OwnRows
+pub mod PlacementRules
+pub mod Putting
+pub mod SeenPatterns

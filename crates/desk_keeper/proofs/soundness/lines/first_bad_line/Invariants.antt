@@ -1,0 +1,12 @@
+use Rattle.std.proofs.Common.{◌≡◌, [], take, None}
+use Rattle.match_types.specs.Fingerprint.{fingerprint_from}
+use Rattle.desk_types.specs.Rules.{first_bad, line_rules}
+use Rattle.desk_keeper.specs.OwnRows.{AreSeen}
+use Rattle.desk_keeper.proofs.soundness.lines.first_bad_line.Given as goal
+
+abbrev pub invariant-loop-i : goal.invariant-loop-i
+invariant-loop-i l =
+    record {
+      kept : first_bad 4 (line_rules l.tables) [] (take l.i l.rows) ≡ None;
+      seen : AreSeen (λ r. r.account) (λ r. fingerprint_from r.campaign r.pattern) (take l.i l.rows) l.seen.items;
+    }

@@ -6,12 +6,13 @@ pub mod Finds
 pub mod Imports
 pub mod Joined
 pub mod LineTables
+pub mod LoadedRows
 pub mod Negatives
 pub mod Numbered
-pub mod Places
 pub mod ReadingRows
 pub mod Rooms
 pub mod Rows
 pub mod Shelves
+pub mod SoundTables
 pub mod States
 pub mod Tables

@@ -51,6 +51,10 @@ tables_of shelves = record {
   batches = flat_map (λ s. s.batches) shelves;
 }
 
+-- the rows that a book keeps: all but the placements
+abbrev pub catalogue_rows : Tables → Tables
+catalogue_rows T = record T { placements = [] }
+
 -- how many more accounts there is room for, and how many more rows of each, by their numbers
 pub record Room : Type 0 where
   pub accounts : ℕ

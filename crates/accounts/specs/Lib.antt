@@ -1,6 +1,6 @@
 pub mod AtHome
 pub mod BookValue
+pub mod LoadedTables
 pub mod Shelved
-pub mod Slot
 pub mod PatternFault
 pub mod Planned

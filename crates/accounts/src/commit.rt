@@ -8,9 +8,9 @@ ghost use Rattle.accounts.specs.BookValue.{HasLeft, HasLeftSpare, HasRoom, HasRo
 ghost use Rattle.accounts.specs.Shelved.{AreShelvedInOrder, HasRowsOf, put_on};
 
 use crate::book::Book;
-use crate::keyed::put;
 use crate::plan::Plan;
 use crate::shelf::Shelf;
+use desk_types::keyed::put;
 use desk_types::{Account, Change, Reply};
 use query_words::List;
 use std::alloc::AllocError;
@@ -75,7 +75,7 @@ impl Book {
 
     /// Makes room for so many rows in the table that a change puts into.
     #[tactic(auto, using(crate::proofs::Committing::room_account))]
-    fn make_room_for(&mut self, change: &Change, count: usize) -> Result<(), AllocError>
+    pub(crate) fn make_room_for(&mut self, change: &Change, count: usize) -> Result<(), AllocError>
         requires owner { HasOwner self.old.tables change.now }
         ensures tables { self.new.tables ≡ self.old.tables }
         ensures room { OnOk result (HasRoomFor self.new.room count change.now) }
@@ -133,7 +133,7 @@ impl Book {
     }
 
     /// Puts a change.
-    fn put(&mut self, change: Change)
+    pub(crate) fn put(&mut self, change: Change)
         requires at_home { IsAtHome self.old.tables change }
         requires room { HasRoomFor self.old.room 1 change }
         ensures tables { self.new.tables ≡ put_change self.old.tables change }

@@ -9,8 +9,8 @@ ghost use Rattle.desk_types.specs.Tables.{put_row};
 ghost use Rattle.match_types.specs.Tests.{is_same_pattern};
 ghost use Rattle.accounts.specs.BookValue.{line_fingerprint};
 
-use crate::keyed::{Slot, slot_of};
 use desk_types::Line;
+use desk_types::keyed::{Slot, slot_of};
 use match_types::Pattern;
 use std::alloc::{AllocError, Global};
 use std::marker::Model;

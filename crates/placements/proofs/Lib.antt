@@ -1,4 +1,5 @@
-pub mod Numbers
 pub mod Keeping
-pub mod Walking
 pub mod Left
+pub mod Loading
+pub mod Numbers
+pub mod Walking

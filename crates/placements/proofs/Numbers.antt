@@ -128,3 +128,12 @@ fated_there rows number p fate run some within at =
     ap (λ o. fated fate o rows) is
     ∙ put_there placement_key q rows (has_at rows 1 (number - 1) q (run_of rows run) own low)
     ∙ replaced_at rows 1 (number - 1) q (run_of rows run) own low
+
+-- the number at a place
+runs_at : (rows : List Placement) (n i : ℕ) (d : Placement) → RunsFrom n rows → i < length rows → (get_or rows i d).number ≡ n + i
+runs_at [] n i d run low = absurd (omega (arith, low))
+runs_at (r ∷ rows) n zero d run low = omega (arith, (head_of r.number n (map (λ p. p.number) rows) (length rows) run).0)
+runs_at (r ∷ rows) n (suc i) d run low = omega (arith, runs_at rows (n + 1) i d (head_of r.number n (map (λ p. p.number) rows) (length rows) run).1 (omega (arith, low)))
+
+pub number_at : (rows : List Placement) (k : ℕ) (d : Placement) → RunFromOne (map (λ p. p.number) rows) → k < length rows → (get_or rows k d).number ≡ k + 1
+number_at rows k d run low = omega (arith, runs_at rows 1 k d (run_of rows run) low)

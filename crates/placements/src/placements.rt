@@ -56,20 +56,22 @@ impl Placements {
         }
     }
 
-    /// The placements of a desk that has shown these. For now there are none. It takes no memory.
+    /// The placements of a desk that has shown these, at its moment in seconds. For now the moment is not looked at: whether
+    /// a deadline has passed is asked with the moment of each call.
     pub fn load(
         alloc: Global,
         rows: List<Placement>,
         _moment: u64,
     ) -> Result<Placements, AllocError>
-        requires none { rows ≡ [] }
+        requires in_turn { AreShownInTurn rows }
         ensures { IfOk result (λ loaded. loaded.rows ≡ rows) }
     {
-        Ok(Placements {
-            rows: rows.into_vec(),
-            before: Vec::new(alloc),
-            last: HashMap::new(alloc),
-        })
+        let mut placements = Placements::new(alloc);
+        for row in rows.as_slice() {
+            placements.make_room(1)?;
+            placements.show(*row);
+        }
+        Ok(placements)
     }
 
     /// Makes room for so many more placements. The rows stay as they are, also where memory is wanted.

@@ -14,6 +14,7 @@ use Rattle.desk_types.specs.Sound.{IsSound}
 use Rattle.desk_types.specs.State.{State}
 use Rattle.desk_types.proofs.Costs.{sum_by-agree, sum_by-filter}
 use Rattle.desk_types.proofs.ReportBounds.{campaign_bounded}
+use Rattle.desk_types.proofs.Soundness.{stable}
 use Rattle.placements.specs.Linked.{is_of_day}
 use Rattle.desk_core.specs.declared.sums.Sums.{Sums}
 use Rattle.desk_core.specs.Sums.{sums_of}
@@ -85,7 +86,7 @@ pub record AreBounded (amount : ℕ) (s : Sums) : Type 0 where
 
 pub sums_bounded : (S : State) (day : ℕ) (c : Campaign) → IsSound S → AreBounded (budget S c.account c.number day) (sums_on S c.account c.number day)
 unfolding campaign_day
-sums_bounded S day c h = let b = campaign_bounded S day c h in record { budget = b.budget; used = b.used; credited = b.credited }
+sums_bounded S day c h = let b = campaign_bounded S day c (stable S h) in record { budget = b.budget; used = b.used; credited = b.credited }
 
 pub sums_are : (R S : State) (a c d : ℕ) (result : Sums) → result ≡ sums_of a c d R.moment (reverse (filter (is_of_day a d) R.tables.placements)) → R ≡ S → result ≡ sums_on S a c d
 sums_are R S a c d result is same = is ∙ sums-own R a c d ∙ ap (λ (U : State). sums_on U a c d) same

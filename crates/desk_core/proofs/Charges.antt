@@ -14,7 +14,7 @@ use Rattle.desk_types.specs.Day.{day_of}
 use Rattle.desk_types.specs.State.{State}
 use Rattle.placements.specs.Linked.{is_of_day}
 use Rattle.placements.proofs.Left.{filter-reverse, filter_both}
-use Rattle.desk_core.specs.Charges.{is_charged}
+use Rattle.desk_types.specs.Rules.{is_charged}
 
 -- a price is not both spent and escrowed
 cost_once : (shown before : Bool) (fate : Fate) (price : ℕ) → cond (shown && is_spent fate) price 0 + cond (shown && (is_open fate && before)) price 0 ≡ cond (shown && (is_spent fate || (is_open fate && before))) price 0

@@ -13,6 +13,7 @@ use Rattle.desk_types.specs.Sound.{IsSound}
 use Rattle.desk_types.specs.State.{State}
 use Rattle.desk_types.proofs.Legality.{range-more}
 use Rattle.desk_types.proofs.ReportBounds.{host_bounded}
+use Rattle.desk_types.proofs.Soundness.{stable}
 use Rattle.desk_core.specs.Sums.{HasRoomFor, with_rows}
 
 sum_map : (f : CampaignDay → ℕ) (row : Campaign → CampaignDay) (cs : List Campaign) → sum_by f (map row cs) ≡ sum_by (λ c. f (row c)) cs
@@ -104,7 +105,7 @@ pub room_more : (S : State) (day accounts count n : ℕ) → IsSound S → lengt
 room_more S day accounts count n h few low is whole =
     let row = campaign_day S day in
     let cs = S.tables.campaigns in
-    let bound = host_bounded S day h (whole ∙ ap (campaigns_up_to cs) is) in
+    let bound = host_bounded S day (stable S h) (whole ∙ ap (campaigns_up_to cs) is) in
     let money : ACCOUNTS_MAX * CAMPAIGNS_MAX * BUDGET_MAX < 2 ^ 64 = omega arith in
     record {
       shown = room_for (λ r. r.shown) row cs count n (length S.tables.placements) low whole bound.shown (omega (arith, few));

@@ -1,14 +1,17 @@
 pub mod AddingUp
+pub mod Asked
 pub mod Besides
 pub mod CampaignDays
 pub mod Charges
 pub mod Credits
 pub mod Desks
+pub mod Entries
 pub mod FindLemmas
 pub mod HostDays
 pub mod Journals
 pub mod Moments
 pub mod Numbers
+pub mod Opened
 pub mod Owned
 pub mod Pages
 pub mod Placements
@@ -16,3 +19,6 @@ pub mod Placing
 pub mod Reached
 pub mod Searching
 pub mod Settled
+pub mod Sounds
+pub mod Summing
+pub mod Telling

@@ -5,7 +5,7 @@ use Rattle.desk_types.specs.Judged.{judged}
 use Rattle.desk_types.specs.Sound.{IsSound}
 use Rattle.desk_types.specs.State.{State}
 use Rattle.desk_types.specs.Step.{answered, at_moment, step}
-use Rattle.desk_types.proofs.Sound.{sound_later}
+use Rattle.desk_types.proofs.Soundness.{sound_later}
 
 -- what is answered at the call's moment is the step
 pub step_from : (S now : State) (moment : ℕ) (call : Call) → now ≡ at_moment S moment → answered now call (judged now call) ≡ step S moment call

@@ -1,8 +1,11 @@
-pub mod Charges
+pub mod Asking
 pub mod DeskValue
 pub mod JournalValue
+pub mod Leaving
 pub mod LedgerValue
+pub mod Opened
 pub mod Planned
+pub mod Searches
 pub mod Shown
 pub mod SoloValue
 pub mod Sums

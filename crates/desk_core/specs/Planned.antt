@@ -13,6 +13,7 @@ use Rattle.desk_types.specs.declared.tables.Tables.{Tables}
 use Rattle.desk_types.specs.Changes.{changes, raises_edition, reply}
 use Rattle.desk_types.specs.Judged.{first, judged, refusals}
 use Rattle.desk_types.specs.State.{State}
+use Rattle.desk_types.specs.Step.{next_edition}
 use Rattle.desk_types.specs.Tables.{put_all}
 use Rattle.desk_core.specs.declared.plan.Changes.{Changes}
 use Rattle.desk_core.specs.declared.plan.Changes.TheVariants.{Nothing, Fate, Placed, Catalogue}
@@ -49,6 +50,13 @@ CanBePutIn T Nothing = ⊤
 CanBePutIn T (Fate number fate) = ⊤
 CanBePutIn T (Placed list) = AreNext T.placements list
 CanBePutIn T (Catalogue list) = CanBePut T list
+
+-- the state with changes put, of a higher edition where they change the catalogue
+abbrev pub with_changes : State → Changes → State
+with_changes S list = record S {
+  edition = next_edition (changes_catalogue list) S.edition;
+  tables = put_all S.tables (listed list);
+}
 
 -- no refusal of the call holds, the changes are those of the accepted call, which raises the edition where they change
 -- the catalogue, and the reply is told behind them

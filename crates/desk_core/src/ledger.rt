@@ -2,7 +2,8 @@
 
 ghost use Rattle.std.specs.Prelude.{◌≡◌, ℕ, IfErr, IfOk};
 ghost use Rattle.desk_types.specs.declared.call.Call.{Call};
-ghost use Rattle.desk_types.specs.State.{empty};
+ghost use Rattle.desk_types.specs.Opening.{opened};
+ghost use Rattle.desk_types.specs.Rules.{AreSound};
 ghost use Rattle.desk_types.specs.Step.{at_moment};
 ghost use Rattle.desk_types.specs.Sound.{IsSound};
 ghost use Rattle.desk_core.specs.Planned.{IsPlanned, IsStop, TakesNoMemory};
@@ -11,9 +12,10 @@ use crate::plan::Plan;
 use crate::stop::Stop;
 use accounts::Book;
 use desk_types::limits::MOMENT_MAX;
-use desk_types::{Call, Settings};
+use desk_types::{Call, Settings, Tables};
 use placements::Placements;
-use std::alloc::Global;
+use query_words::Twin;
+use std::alloc::{AllocError, Global};
 use std::marker::Model;
 
 /// The rows of a desk, its settings, its moment and its edition. Contracts see it as the ledger's
@@ -44,17 +46,20 @@ impl Model for Ledger {
 }
 
 impl Ledger {
-    /// A ledger without rows. It takes no memory.
-    pub fn new(alloc: Global, settings: Settings) -> Ledger
-        ensures { result.state ≡ empty settings }
+    /// A ledger of the rows of sound tables, at their last moment.
+    pub fn load(alloc: Global, tables: &Tables, settings: Settings) -> Result<Ledger, AllocError>
+        requires sound { AreSound tables.now }
+        ensures { IfOk result (λ ledger. ledger.state ≡ opened settings tables.now) }
     {
-        Ledger {
+        let book = Book::load(alloc, tables)?;
+        let placements = Placements::load(alloc, tables.placements.twin()?, tables.latest())?;
+        Ok(Ledger {
             settings,
-            moment: 0,
+            moment: tables.latest(),
             edition: 0,
-            book: Book::new(alloc),
-            placements: Placements::new(alloc),
-        }
+            book,
+            placements,
+        })
     }
 
     pub(crate) fn alloc(&self) -> Global {

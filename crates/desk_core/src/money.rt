@@ -5,7 +5,7 @@ ghost use Rattle.std.specs.List.{list_any};
 ghost use Rattle.desk_types.specs.Day.{day_of as the_day_of};
 ghost use Rattle.desk_types.specs.Eligible.{can_pay};
 ghost use Rattle.desk_types.specs.Money.{budget, is_latest, is_set_by, is_shown_on, is_spent, used};
-ghost use Rattle.desk_core.specs.Charges.{is_charged};
+ghost use Rattle.desk_types.specs.Rules.{is_charged};
 
 use crate::ledger::Ledger;
 use desk_types::{BudgetSet, Fate, Line, Placement, day_of};
@@ -130,7 +130,7 @@ pub(crate) fn is_shown_on(placement: &Placement, of: CampaignAndDay) -> bool
 }
 
 /// Whether the price is spent: a click settled it.
-fn is_spent(fate: Fate) -> bool
+pub(crate) fn is_spent(fate: Fate) -> bool
     ensures { result ≡ is_spent fate }
 {
     match fate {

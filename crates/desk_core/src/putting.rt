@@ -6,10 +6,9 @@ ghost use Rattle.accounts.specs.AtHome.{CanBePut};
 ghost use Rattle.accounts.specs.BookValue.{HasRoom as HasRoomInBook};
 ghost use Rattle.accounts.specs.Planned.{is_of_catalogue};
 ghost use Rattle.desk_types.specs.declared.tables.Change.{Change};
-ghost use Rattle.desk_types.specs.Step.{next_edition};
 ghost use Rattle.desk_types.specs.Tables.{put as put_change, put_all, put_fate, placement_of};
 ghost use Rattle.desk_core.specs.LedgerValue.{HasRoom};
-ghost use Rattle.desk_core.specs.Planned.{CanBePutIn, changes_catalogue, listed, needs_no_room};
+ghost use Rattle.desk_core.specs.Planned.{CanBePutIn, changes_catalogue, listed, needs_no_room, with_changes};
 ghost use Rattle.placements.specs.PlacementsValue.{AreNext, IsNext};
 
 use crate::ledger::Ledger;
@@ -49,10 +48,7 @@ impl Ledger {
         requires can_be_put { CanBePutIn self.old.state.tables changes }
         requires room { HasRoom self.old.spare changes }
         requires edition { self.old.state.edition < 2 ^ 64 - 1 }
-        ensures { self.new.state ≡ record self.old.state {
-          edition = next_edition (changes_catalogue changes) self.old.state.edition;
-          tables = put_all self.old.state.tables (listed changes);
-        } }
+        ensures { self.new.state ≡ with_changes self.old.state changes }
     {
         let rises = changes_catalogue(&changes);
         self.put_changes(changes);

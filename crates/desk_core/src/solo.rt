@@ -4,19 +4,21 @@ ghost use Rattle.std.specs.Prelude.{◌≡◌};
 ghost use Rattle.desk_core.specs.SoloValue.{AreOwn};
 
 use crate::desk::Desk;
+use crate::name::DeskName;
 use crate::told::Told;
-use desk_types::{Call, Fault, Reply, Service, Settings};
+use desk_keeper::Keeper;
+use desk_types::{Call, Fault, Reply, Service};
 use std::marker::Model;
 
 /// A desk that serves one caller. Contracts see it as the desk and the caller's number; each entry of
 /// the desk's journal is the caller's.
 #[derive(Drop)]
-pub struct Solo {
-    desk: Desk,
+pub struct Solo<K: Keeper> {
+    desk: Desk<K>,
     caller: u64,
 }
 
-impl Model for Solo {
+impl<K: Keeper> Model for Solo<K> {
     ghost use Rattle.desk_core.specs.SoloValue.{SoloValue, AreOwn};
 
     ghost Value = { SoloValue };
@@ -26,9 +28,9 @@ impl Model for Solo {
     ghost invariant = { λ s. AreOwn s.caller s.desk.log };
 }
 
-impl Solo {
+impl<K: Keeper> Solo<K> {
     /// A service of this caller over a desk whose journal has no entries of others.
-    pub fn new(desk: Desk, caller: u64) -> Solo
+    pub fn new(desk: Desk<K>, caller: u64) -> Solo<K>
         requires own { AreOwn caller desk.log }
         ensures desk { result.desk ≡ desk }
         ensures caller { result.caller ≡ caller }
@@ -37,7 +39,7 @@ impl Solo {
     }
 
     /// The desk as it stands. Each entry of its journal is the caller's.
-    pub fn end(self) -> Desk
+    pub fn end(self) -> Desk<K>
         ensures desk { result ≡ self.desk }
         ensures own { AreOwn self.caller result.log }
     {
@@ -46,12 +48,12 @@ impl Solo {
     }
 }
 
-impl Service for Solo {
-    ghost use Rattle.desk_core.specs.DeskValue.{service_of};
+impl<K: Keeper> Service for Solo<K> {
+    ghost use Rattle.desk_core.specs.DeskValue.{name_of, service_of};
 
-    type Home = Settings;
+    type Home = DeskName;
 
-    ghost home = { λ s. s.desk.settings };
+    ghost home = { λ s. name_of s.desk };
 
     ghost service = { λ s. service_of s.caller s.desk };
 

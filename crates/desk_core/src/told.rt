@@ -6,6 +6,7 @@ ghost use Rattle.desk_core.specs.DeskValue.{state};
 ghost use Rattle.desk_core.specs.Told.{HasNoLink, IsThere, replied};
 
 use crate::desk::Desk;
+use desk_keeper::Keeper;
 use desk_types::{DayReport, HostDay, Refusal, Reply, ShownRow, Spot};
 use query_words::List;
 
@@ -67,7 +68,7 @@ impl Told {
     }
 }
 
-impl Desk {
+impl<K: Keeper> Desk<K> {
     /// The reply that is told, as the rows stand. It takes no memory.
     pub(crate) fn reply(&self, told: Told) -> Reply
         requires { IsThere (state self.now).tables told }

@@ -1,36 +1,35 @@
-use Rattle.std.proofs.Common.{◌≡◌, true, false, ap, subst, ◌∙◌}
-use Rattle.std.specs.Result.{IsOk}
-use Rattle.desk_types.specs.State.{State}
-use Rattle.desk_types.specs.Step.{next_edition}
-use Rattle.desk_types.specs.Tables.{put_all}
-use Rattle.desk_core.specs.Planned.{changes_catalogue, listed}
-use Rattle.desk_core.proofs.Reached.{answered_is, there_of, told_of}
+use Rattle.std.proofs.Common.{rules, ◌≡◌, Some, [], Ok}
+use Rattle.desk_types.specs.Judged.{judged}
+use Rattle.desk_core.specs.declared.told.Told.TheVariants.{Refused}
+use Rattle.desk_core.specs.Asking.{changes_of}
+use Rattle.desk_core.specs.Planned.{listed}
+use Rattle.desk_core.proofs.Asked.{asked_nothing, asked_same}
+use Rattle.desk_core.proofs.Reached.{answered_is, changes_planned, changes_refused, there_of, told_of}
 use Rattle.desk_core.proofs.desk.answer.Goals as goal
 
-pub returns-in_err-make_room-in-Ok-clause-click : goal.returns-in_err-make_room-in-Ok-clause-click
-returns-in_err-make_room-in-Ok-clause-click c = λ placement is spare.
-    let ok : false ≡ true = subst IsOk c.in_err-make_room-in-Ok.was (c.make_room.ensures.succeeds (c.in-Ok.ensures.click placement is)) in
-    absurd cc
+pub returns-in-Ok-planned-clause-state : goal.returns-in-Ok-planned-clause-state
+returns-in-Ok-planned-clause-state g c =
+    answered_is c.args.ledger.now.state c.carry_out.new.ledger.state c.args.call.now c.in-Ok-planned.plan c.carry_out.result c.in-Ok-planned.ensures.planned c.carry_out.ensures.state
 
-pub returns-in_err-make_room-in-Ok-clause-credit : goal.returns-in_err-make_room-in-Ok-clause-credit
-returns-in_err-make_room-in-Ok-clause-credit c = λ placement is spare.
-    let ok : false ≡ true = subst IsOk c.in_err-make_room-in-Ok.was (c.make_room.ensures.succeeds (c.in-Ok.ensures.credit placement is)) in
-    absurd cc
+pub returns-in-Ok-planned-clause-reply : goal.returns-in-Ok-planned-clause-reply
+returns-in-Ok-planned-clause-reply g c =
+    told_of c.args.ledger.now.state c.carry_out.new.ledger.state c.args.call.now c.in-Ok-planned.plan c.carry_out.result c.in-Ok-planned.ensures.planned c.carry_out.ensures.state c.carry_out.ensures.told
 
-pub returns-in_ok-make_room-in-Ok-clause-state : goal.returns-in_ok-make_room-in-Ok-clause-state
-returns-in_ok-make_room-in-Ok-clause-state c =
-    let changes = c.in-Ok.plan.changes in
-    let is = c.accept.ensures ∙ ap (λ (S : State). record S { edition = next_edition (changes_catalogue changes) S.edition; tables = put_all S.tables (listed changes) }) c.make_room.ensures.state in
-    answered_is c.args.ledger.now.state c.accept.new.self.state c.args.call.now c.in-Ok.plan c.in-Ok.ensures.planned is
+pub returns-in-Ok-planned-clause-there : goal.returns-in-Ok-planned-clause-there
+returns-in-Ok-planned-clause-there g c =
+    there_of c.args.ledger.now.state c.carry_out.new.ledger.state c.args.call.now c.in-Ok-planned.plan c.carry_out.result c.in-Ok-planned.ensures.planned c.carry_out.ensures.state c.carry_out.ensures.told
 
-pub returns-in_ok-make_room-in-Ok-clause-reply : goal.returns-in_ok-make_room-in-Ok-clause-reply
-returns-in_ok-make_room-in-Ok-clause-reply c =
-    let changes = c.in-Ok.plan.changes in
-    let is = c.accept.ensures ∙ ap (λ (S : State). record S { edition = next_edition (changes_catalogue changes) S.edition; tables = put_all S.tables (listed changes) }) c.make_room.ensures.state in
-    told_of c.args.ledger.now.state c.accept.new.self.state c.args.call.now c.in-Ok.plan c.in-Ok.ensures.planned is
+pub returns-in-Ok-planned-clause-asked : goal.returns-in-Ok-planned-clause-asked
+returns-in-Ok-planned-clause-asked g c =
+    let S = c.args.ledger.now.state in
+    let plan = c.in-Ok-planned.plan in
+    asked_same (g.K.Keeper.keeper c.args.keeper.now) (g.K.Keeper.keeper c.carry_out.new.keeper) (listed plan.changes) (changes_of S c.args.call.now) c.carry_out.result
+    (changes_planned S c.args.call.now plan c.in-Ok-planned.ensures.planned) c.carry_out.ensures.asked
 
-pub returns-in_ok-make_room-in-Ok-clause-there : goal.returns-in_ok-make_room-in-Ok-clause-there
-returns-in_ok-make_room-in-Ok-clause-there c =
-    let changes = c.in-Ok.plan.changes in
-    let is = c.accept.ensures ∙ ap (λ (S : State). record S { edition = next_edition (changes_catalogue changes) S.edition; tables = put_all S.tables (listed changes) }) c.make_room.ensures.state in
-    there_of c.args.ledger.now.state c.accept.new.self.state c.args.call.now c.in-Ok.plan c.in-Ok.ensures.planned is
+pub returns-in-Err-Refused-clause-asked : goal.returns-in-Err-Refused-clause-asked
+returns-in-Err-Refused-clause-asked g c =
+    let S = c.args.ledger.now.state in
+    let k = g.K.Keeper.keeper c.args.keeper.now in
+    let refusal = c.in-Err-Refused.refusal in
+    let refused : judged S c.args.call.now ≡ Some refusal = search rules in
+    asked_same k k [] (changes_of S c.args.call.now) (Ok (Refused refusal)) (changes_refused S c.args.call.now refusal refused) (asked_nothing k (Refused refusal))

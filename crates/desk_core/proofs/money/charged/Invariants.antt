@@ -1,6 +1,6 @@
 use Rattle.std.proofs.Common.{◌≡◌, ◌+◌, ◌*◌, ◌^◌, ◌≤◌, ℕ, List, filter, length, sum_by}
 use Rattle.desk_types.specs.declared.rows.Placement.{Placement}
-use Rattle.desk_core.specs.Charges.{is_charged}
+use Rattle.desk_types.specs.Rules.{is_charged}
 use Rattle.desk_core.proofs.money.charged.Given as goal
 
 abbrev pub invariant-loop-placement : goal.invariant-loop-placement

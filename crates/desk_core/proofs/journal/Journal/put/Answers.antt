@@ -1,5 +1,7 @@
 use Rattle.std.proofs.Common.{◌≡◌, false, sym, subst, ◌∙◌, arith}
-use Rattle.desk_types.specs.Journal.{is_full}
+use Rattle.std.specs.List.{All}
+use Rattle.desk_types.specs.declared.entry.Entry.{Entry}
+use Rattle.desk_types.specs.Journal.{IsBefore, is_full}
 use Rattle.desk_core.specs.JournalValue.{JournalValue}
 use Rattle.desk_core.proofs.Journals.{entry_more, journal_more, numbered_as, room_for}
 use Rattle.desk_core.proofs.journal.Journal.put.Goals as goal
@@ -20,5 +22,8 @@ invariant_of-self c =
     let s = c.self.inside.settings in
     let es = c.self.inside.entries.items in
     let room : is_full s es c.args.call ≡ false = subst (λ (v : JournalValue). is_full v.settings v.entries c.args.call ≡ false) (sym c.self.view_is) c.requires.fits in
-    journal_more s es _ _ _ c.args.caller c.args.moment c.args.call c.self.invariant room c.weight.ensures
-    (c.in-Ok.ensures.items ∙ entry_more es c.as_slice.result.now c.args.caller c.last_number-number.result c.args.moment c.args.call c.as_slice.ensures.value c.last_number-number.ensures)
+    let before : All (λ (e : Entry). IsBefore e.outcome c.args.outcome) es =
+    subst (λ (v : JournalValue). All (λ (e : Entry). IsBefore e.outcome c.args.outcome) v.entries) (sym c.self.view_is) c.requires.in_order in
+    journal_more s es _ _ _ c.args.caller c.args.moment c.args.call c.args.outcome c.self.invariant room c.weight.ensures c.requires.rise before
+    (c.in-Ok.ensures.items
+    ∙ entry_more es c.as_slice.result.now c.args.caller c.last_number-number.result c.args.moment c.args.call c.args.outcome c.as_slice.ensures.value c.last_number-number.ensures)

@@ -11,6 +11,7 @@ use Rattle.desk_types.specs.Judged.{page_of, places_of}
 use Rattle.desk_types.specs.State.{State}
 use Rattle.desk_types.proofs.SecondPrice.{lines_in_range}
 use Rattle.desk_types.specs.Changes.{all_placed}
+use Rattle.desk_types.proofs.Soundness.{stable}
 use Rattle.rank_core.specs.Ranked.{ranked}
 use Rattle.rank_core.specs.declared.page.Ranked.{Ranked}
 use Rattle.desk_core.specs.Shown.{AreRankedFrom, CanBePriced, HasLine}
@@ -18,6 +19,7 @@ use Rattle.desk_core.proofs.Pages.{ads_of-ranked, length-ranked, placed-lines, r
 use Rattle.desk_core.proofs.Placements.{placed_next}
 use Rattle.desk_core.proofs.Placing.{ads_of}
 use Rattle.desk_core.proofs.Searching.{search_bad_places, search_full, search_not_refused}
+use Rattle.desk_core.proofs.Sounds.{moment_of, shown_before}
 use Rattle.desk_core.proofs.ledger.Ledger.placements_for.Goals as goal
 
 page_is : (S : State) (text : List ℕ) (query : List (List ℕ)) (places count : _) (page : List Ranked) → query ≡ words_of text → count ≡ places_of S places → page ≡ ranked (entrants_for S query) count → page ≡ ranked (entrants_for S (words_of text)) (places_of S places)
@@ -48,7 +50,7 @@ returns-then-not-has_room-clause-stopped c =
 
 pub placed-requires-clause-priced : goal.placed-requires-clause-priced
 placed-requires-clause-priced c =
-    All-same (CanBePriced c.args.self.now.state) _ _ (c.as_slice.ensures.value ∙ c.in_ok-page.ensures) (ranked-priced c.args.self.now.state c.in_ok-query.query c.in-Some.count (lines_in_range c.args.self.now.state c.requires.sound))
+    All-same (CanBePriced c.args.self.now.state) _ _ (c.as_slice.ensures.value ∙ c.in_ok-page.ensures) (ranked-priced c.args.self.now.state c.in_ok-query.query c.in-Some.count (lines_in_range c.args.self.now.state (stable c.args.self.now.state c.requires.sound)))
 
 pub returns-clause-not_refused : goal.returns-clause-not_refused
 returns-clause-not_refused c =
@@ -66,17 +68,17 @@ returns-clause-placements c =
     let count = places_of S c.args.places in
     let is : c.as_slice.result.now ≡ ranked entered count
     = c.as_slice.ensures.value ∙ page_is S text c.in_ok-query.query c.args.places c.in-Some.count c.in_ok-page.page.items c.in_ok-query.ensures.words c.in-Some.ensures.value c.in_ok-page.ensures in
-    c.in_ok-placed.ensures entered (subst (AreRankedFrom entered) (sym is) (ranked-from S (words_of text) count (lines_in_range c.args.self.now.state c.requires.sound)))
+    c.in_ok-placed.ensures entered (subst (AreRankedFrom entered) (sym is) (ranked-from S (words_of text) count (lines_in_range c.args.self.now.state (stable c.args.self.now.state c.requires.sound))))
     ∙ ap (all_placed S entered (length S.tables.placements + 1)) (ap ads_of is ∙ ads_of-ranked entered count)
 
 pub returns-clause-lines : goal.returns-clause-lines
 returns-clause-lines c =
     let S = c.args.self.now.state in
-    All-same (HasLine S.tables) _ _ (returns-clause-placements c) (placed-lines S (words_of c.args.text.now) (length S.tables.placements + 1) (places_of S c.args.places) (lines_in_range c.args.self.now.state c.requires.sound))
+    All-same (HasLine S.tables) _ _ (returns-clause-placements c) (placed-lines S (words_of c.args.text.now) (length S.tables.placements + 1) (places_of S c.args.places) (lines_in_range c.args.self.now.state (stable c.args.self.now.state c.requires.sound)))
 
 pub returns-clause-next : goal.returns-clause-next
 returns-clause-next c =
     let S = c.args.self.now.state in
-    let past : All (λ (p : Placement). p.shown ≤ S.moment) S.tables.placements = c.requires.sound.past.placements in
+    let past : All (λ (p : Placement). p.shown ≤ S.moment) S.tables.placements = shown_before S c.requires.sound in
     subst (AreNext S.tables.placements) (sym (returns-clause-placements c))
-    (placed_next S (entrants_for S (words_of c.args.text.now)) S.tables.placements (length S.tables.placements + 1) (page_of S c.args.text.now c.args.places) c.requires.sound.moment past refl)
+    (placed_next S (entrants_for S (words_of c.args.text.now)) S.tables.placements (length S.tables.placements + 1) (page_of S c.args.text.now c.args.places) (moment_of S c.requires.sound) past refl)

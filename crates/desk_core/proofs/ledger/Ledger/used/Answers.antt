@@ -1,6 +1,6 @@
 use Rattle.std.proofs.Common.{◌∙◌, ap, filter, sum_by}
 use Rattle.desk_types.specs.Money.{used}
-use Rattle.desk_core.specs.Charges.{is_charged}
+use Rattle.desk_types.specs.Rules.{is_charged}
 use Rattle.desk_core.specs.contracts.ledger.Ledger.{the_view}
 use Rattle.desk_core.proofs.Charges.{used-own}
 use Rattle.desk_core.proofs.ledger.Ledger.used.Goals as goal

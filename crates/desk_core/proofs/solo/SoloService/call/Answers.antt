@@ -10,7 +10,7 @@ use Rattle.desk_core.proofs.solo.SoloService.call.Goals as goal
 use Rattle.desk_core.proofs.solo.SoloService.call.Goals.{in-Ok-Link, in-Ok, in-Err}
 
 pub returns-clause-serves : goal.returns-clause-serves
-returns-clause-serves c =
+returns-clause-serves g c =
     let T = (state c.tell.new.self).tables in
     let told : result_told T c.tell.result ≡ c.match-tell.result = elim c.match-tell.branch [
       | in-Ok-Link w ↦
@@ -19,4 +19,4 @@ returns-clause-serves c =
       | in-Err w ↦ ap (result_told T) w.in-Err.is ∙ sym w.result-is
     ] in
     subst (λ (s : SoloValue). Serves (service_of s.caller s.desk) c.args.moment c.args.call c.match-tell.result (service_of c.self.inside.caller c.tell.new.self)) c.self.view_is
-    (serves_from c.self.inside.caller c.args.moment c.args.call c.self.inside.desk c.tell.new.self (result_told T c.tell.result) c.match-tell.result c.tell.ensures.answers c.tell.ensures.no_keeper c.tell.ensures.settings told)
+    (serves_from c.self.inside.caller c.args.moment c.args.call c.self.inside.desk c.tell.new.self (result_told T c.tell.result) c.match-tell.result c.tell.ensures.answers c.tell.ensures.sure c.tell.ensures.stays told)

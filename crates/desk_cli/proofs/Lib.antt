@@ -2,6 +2,7 @@ pub mod PartLemmas
 pub mod TextLemmas
 pub mod FormLemmas
 pub mod Turns
+pub mod Unopened
 pub mod Meeting
 pub mod OnPage
 pub mod Sending

@@ -5,7 +5,8 @@ use Rattle.auction_types.specs.Page.{entrants, place, page}
 use Rattle.auction_types.specs.Price.{price}
 use Rattle.desk_io.specs.declared.numbered_lines.LineFault.{LineFault}
 use Rattle.desk_io.specs.declared.numbered_lines.LineFault.TheVariants.{BadLine, LongLine, TooManyLines}
-use Rattle.desk_cli.specs.declared.status.TheConstants.{ENDED, WORDS_REFUSED, READ_FAULT, BAD_LINE, PAST_LIMIT}
+use Rattle.desk_types.specs.declared.tables.BadTables.{BadTables}
+use Rattle.desk_cli.specs.declared.status.TheConstants.{ENDED, WORDS_REFUSED, READ_FAULT, BAD_TABLES, KEEPER_FAULT, BAD_LINE, PAST_LIMIT}
 use Rattle.desk_cli.specs.Reading.{AuctionValue}
 
 -- what is written, and the status
@@ -40,6 +41,12 @@ unfoldable pub auction_page_text : AuctionValue → List ℕ
 auction_page_text auction =
     flat_map (entrant_text auction) (page (entrants auction.ads) auction.heading.places) ++ codes "end\n"
 
+-- the line of tables that break a rule: the rule, the table and the row
+abbrev pub bad_tables_text : BadTables → List ℕ
+bad_tables_text bad =
+    codes "bad tables " ++ (decimal bad.rule ++ (codes " " ++ (decimal bad.table ++ (codes " " ++ (decimal bad.row
+    ++ codes "\n")))))
+
 -- what is said of an auction, of a fault in the lines, of a failed read, and of words that no command has
 abbrev pub page_printout : AuctionValue → Printout
 page_printout auction = record { text = auction_page_text auction; status = ENDED }
@@ -52,6 +59,13 @@ read_fault_printout = record { text = codes "read fault\n"; status = READ_FAULT 
 
 abbrev pub refused_printout : Printout
 refused_printout = record { text = codes "words refused\n"; status = WORDS_REFUSED }
+
+-- what is said of a keeper whose tables break a rule, and of one that failed
+abbrev pub bad_tables_printout : BadTables → Printout
+bad_tables_printout bad = record { text = bad_tables_text bad; status = BAD_TABLES }
+
+abbrev pub keeper_fault_printout : Printout
+keeper_fault_printout = record { text = codes "keeper fault\n"; status = KEEPER_FAULT }
 
 -- the printout of an auction or of its first fault
 abbrev pub printout_of : Result AuctionValue LineFault → Printout

@@ -10,7 +10,7 @@ use Rattle.desk_types.specs.Serving.{with_seen}
 use Rattle.desk_types.specs.Sound.{StaysWithinBudgets}
 use Rattle.desk_types.specs.State.{State}
 use Rattle.desk_types.specs.Step.{at_moment, step}
-use Rattle.desk_core.specs.DeskValue.{DeskValue, opening, service_of}
+use Rattle.desk_core.specs.DeskValue.{DeskValue, first_state, service_of}
 use Rattle.desk_io.specs.SinkView.{SinkView}
 use Rattle.desk_io.specs.SourceView.{SourceView}
 use Rattle.desk_io.specs.declared.numbered_lines.LineFault.TheVariants as line
@@ -59,6 +59,6 @@ IsPricedPage S e = (text : List ℕ) (places : Option ℕ) (spots : List Spot) �
 -- throughout the desk's history, spent and escrowed together stay within each budget, and each page is so priced
 pub record HoldsThroughout (desk : DeskValue) : Type 0 where
   pub budgets : (before after : List Entry) → desk.log ≡ before ++ after →
-      StaysWithinBudgets (run (opening desk) before)
+      StaysWithinBudgets (run (first_state desk) before)
   pub pages : (before after : List Entry) (e : Entry) → desk.log ≡ before ++ e ∷ after →
-      IsPricedPage (run (opening desk) before) e
+      IsPricedPage (run (first_state desk) before) e

@@ -1,16 +1,21 @@
 -- How a call of the program ends.
-use Rattle.std.specs.Prelude.{◌≡◌, ℕ, ◌⊎◌, List, [], ◌∷◌, codes, None, Some, IfSome, Result}
+use Rattle.std.specs.Prelude.{◌≡◌, ℕ, ◌⊎◌, List, [], ◌∷◌, codes, Option, None, Some, IfSome, option_map, Result}
 use Rattle.desk_io.specs.Faults.{Rose}
 use Rattle.desk_io.specs.SourceView.{SourceView}
 use Rattle.desk_io.specs.declared.numbered_lines.LineFault.{LineFault}
+use Rattle.desk_io.specs.SinkView.{SinkView}
+use Rattle.desk_types.specs.declared.tables.BadTables.{BadTables}
 use Rattle.desk_types.specs.SettingsValue.{usual}
-use Rattle.desk_core.specs.DeskValue.{DeskValue}
+use Rattle.desk_keeper.specs.KeeperView.{KeeperView}
+use Rattle.desk_core.specs.DeskValue.{DeskValue, IsRunOfLedger, name_of}
+use Rattle.desk_core.specs.Opened.{AreLoaded, HasFailed, HaveBroken, HoldsAsBefore}
 use Rattle.desk_core.specs.SoloValue.{AreOwn}
 use Rattle.desk_cli.specs.declared.script.Served.{Served}
 use Rattle.desk_cli.specs.Ending.{IsCutOff}
-use Rattle.desk_cli.specs.Printout.{Printout, printout_of, read_fault_printout, refused_printout}
+use Rattle.desk_cli.specs.Printout.{Printout, bad_tables_printout, keeper_fault_printout, printout_of, read_fault_printout, refused_printout}
 use Rattle.desk_cli.specs.Reading.{AuctionValue, auction_in}
-use Rattle.desk_cli.specs.Saying.{IsWritten}
+use Rattle.desk_cli.specs.declared.status.TheConstants.{NO_MEMORY}
+use Rattle.desk_cli.specs.Saying.{IsSilent, IsWritten}
 use Rattle.desk_cli.specs.ScriptCall.{CallState, HoldsThroughout, IsScriptServed}
 
 -- the words are this one word
@@ -39,31 +44,98 @@ pub record IsAuctionServed (before after : CallState) (status : ℕ) : Type 0 wh
   pub judged : IsAuctionPrintout before.source after.source printout
   pub said : IsWritten before.sink after.sink printout status
 
+-- what a call leaves: the status, and the desk that it served or the keeper that comes back
+pub record Left : Type 0 where
+  pub status : ℕ
+  pub desk : Option DeskValue
+  pub keeper : Option KeeperView
+
+abbrev pub left_by : {K : Type 0} → (K → KeeperView) → Served K → Left
+left_by view served =
+    record { status = served.status; desk = served.desk; keeper = option_map view served.keeper }
+
+-- a call before and after it: its words, the keeper handed in, the input and the output, and what it leaves
+pub record TopCall : Type 0 where
+  pub words : List (List ℕ)
+  pub keeper : KeeperView
+  pub before : CallState
+  pub after : CallState
+  pub left : Left
+
+-- no desk is opened, and nothing is asked of the keeper
+pub record HasNoDesk (c : TopCall) : Type 0 where
+  pub no_desk : c.left.desk ≡ None
+  pub keeper : c.left.keeper ≡ Some c.keeper
+
 -- the words are none that the program takes: it says so, and reads nothing
-pub record IsRefused (words : List (List ℕ)) (before after : CallState) (served : Served) : Type 0 where
-  pub no_auction : ¬ (AreWord (codes "auction") words)
-  pub no_script : ¬ (AreWord (codes "script") words)
-  pub unread : after.source ≡ before.source
-  pub said : IsWritten before.sink after.sink refused_printout served.status
-  pub no_desk : served.desk ≡ None
+pub record IsRefused (c : TopCall) : Type 0 where
+  pub no_auction : ¬ (AreWord (codes "auction") c.words)
+  pub no_script : ¬ (AreWord (codes "script") c.words)
+  pub unread : c.after.source ≡ c.before.source
+  pub said : IsWritten c.before.sink c.after.sink refused_printout c.left.status
+  pub unopened : HasNoDesk c
 
 -- the word is `auction`, and the printout of the auction is written
-pub record IsAuction (words : List (List ℕ)) (before after : CallState) (served : Served) : Type 0 where
-  pub words_are : AreWord (codes "auction") words
-  pub run : IsAuctionServed before after served.status
-  pub no_desk : served.desk ≡ None
+pub record IsAuction (c : TopCall) : Type 0 where
+  pub words_are : AreWord (codes "auction") c.words
+  pub run : IsAuctionServed c.before c.after c.left.status
+  pub unopened : HasNoDesk c
 
--- the word is `script`, and the script is served by a desk with the usual settings, whose entries are all the caller's
-pub record IsScript (words : List (List ℕ)) (before after : CallState) (served : Served) : Type 0 where
-  pub words_are : AreWord (codes "script") words
-  pub desk : DeskValue
-  pub there : served.desk ≡ Some desk
+-- the desk is opened on the keeper with the usual settings, and is the ledger's run
+pub record IsOpenedOn (keeper : KeeperView) (desk : DeskValue) : Type 0 where
   pub settings : desk.settings ≡ usual
+  pub base : desk.base ≡ keeper.faults
+  pub loaded : AreLoaded keeper desk.opening
+  pub sure : desk.keeper.sure ≡ keeper.sure
+  pub of_ledger : IsRunOfLedger desk
+
+-- no call changes what a desk was opened with
+abbrev pub IsSameOpening : DeskValue → DeskValue → Type 0
+IsSameOpening desk desk_now = name_of desk_now ≡ name_of desk
+
+-- the script is served by a desk on the keeper, whose entries are all the caller's
+pub record IsServed (keeper : KeeperView) (before after : CallState) (left : Left) : Type 0 where
+  pub desk : DeskValue
+  pub there : left.desk ≡ Some desk
+  pub no_keeper : left.keeper ≡ None
+  pub opened : IsOpenedOn keeper desk
   pub own : AreOwn 1 desk.log
-  pub run : IsScriptServed before after desk served.status
+  pub run : IsScriptServed before after desk left.status
   pub throughout : HoldsThroughout desk
 
+-- what is said where no desk is opened, and the status: the tables loaded break a rule, the keeper failed, or memory was
+-- wanted
+pub record SaysBadTables (keeper : KeeperView) (sink sink_now : SinkView) (status : ℕ) : Type 0 where
+  pub bad : BadTables
+  pub broken : HaveBroken keeper bad
+  pub said : IsWritten sink sink_now (bad_tables_printout bad) status
+
+pub record SaysKeeperFault (keeper keeper_now : KeeperView) (sink sink_now : SinkView) (status : ℕ) : Type 0 where
+  pub failed : HasFailed keeper keeper_now
+  pub said : IsWritten sink sink_now keeper_fault_printout status
+
+abbrev pub SaysUnopened : KeeperView → KeeperView → SinkView → SinkView → ℕ → Type 0
+SaysUnopened keeper keeper_now sink sink_now status =
+    (SaysBadTables keeper sink sink_now status ⊎ SaysKeeperFault keeper keeper_now sink sink_now status)
+    ⊎ IsSilent NO_MEMORY sink sink_now status
+
+-- no desk is opened: nothing is read, and the keeper comes back with what it held
+pub record IsNotServed (keeper : KeeperView) (before after : CallState) (left : Left) : Type 0 where
+  pub no_desk : left.desk ≡ None
+  pub keeper_now : KeeperView
+  pub back : left.keeper ≡ Some keeper_now
+  pub as_before : HoldsAsBefore keeper keeper_now
+  pub unread : after.source ≡ before.source
+  pub said : SaysUnopened keeper keeper_now before.sink after.sink left.status
+
+abbrev pub ScriptEnds : KeeperView → CallState → CallState → Left → Type 0
+ScriptEnds keeper before after left = IsServed keeper before after left ⊎ IsNotServed keeper before after left
+
+-- the word is `script`, and a desk serves the script, or none is opened
+pub record IsScript (c : TopCall) : Type 0 where
+  pub words_are : AreWord (codes "script") c.words
+  pub run : ScriptEnds c.keeper c.before c.after c.left
+
 -- how a call ends, by its words
-abbrev pub CallEnds : List (List ℕ) → CallState → CallState → Served → Type 0
-CallEnds words before after served =
-    (IsAuction words before after served ⊎ IsScript words before after served) ⊎ IsRefused words before after served
+abbrev pub CallEnds : TopCall → Type 0
+CallEnds c = (IsAuction c ⊎ IsScript c) ⊎ IsRefused c

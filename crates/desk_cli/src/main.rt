@@ -20,6 +20,8 @@ mod top;
 
 use crate::script::Served;
 use desk_io::{Sink, Source, StdSink, StdSource};
+use desk_keeper::KeeperMem;
+use desk_types::Tables;
 use std::alloc::Global;
 use std::process::ExitCode;
 use std::{env, io, mem};
@@ -43,9 +45,15 @@ fn status_of<S: Source, T: Sink>(
         Err(error) if error.kind() == io::ErrorKind::OutOfMemory => return status::NO_MEMORY,
         Err(_) => Vec::new(alloc),
     };
-    let Served { status, desk } = top::desk_top(alloc, &words, input, output);
+    let keeper = KeeperMem::new(alloc, Tables::new(alloc), Vec::new(alloc));
+    let Served {
+        status,
+        desk,
+        keeper,
+    } = top::desk_top(alloc, &words, input, output, keeper);
     // The process ends here, and gives back its memory as a whole.
     mem::forget(desk);
+    mem::forget(keeper);
     status
 }
 

@@ -1,13 +1,17 @@
 //! Tests of what the program answers on given words and bytes.
 
+use crate::script::Served;
 use crate::top::desk_top;
 use desk_io::{MemSink, MemSource};
+use desk_keeper::KeeperMem;
+use desk_types::Tables;
 use std::alloc::{AllocError as NoMemory, Global};
 use std::process::Abort;
 use std::test::Fail;
 
 mod auctions;
 mod ends;
+mod keepers;
 mod scripts;
 
 /// How a call goes: the size of the pieces, and the read and the write that fail, counted from 1;
@@ -64,19 +68,30 @@ fn words_of(alloc: Global, words: &[&str]) -> Result<Vec<String>, NoMemory> {
     Ok(owned)
 }
 
-/// Calls the program on an input in memory.
+/// Calls the program on an input in memory, with a keeper that holds no rows.
 fn call(alloc: Global, words: &[&str], input: &[u8], way: Way) -> Result<Wrote, NoMemory> {
+    let keeper = KeeperMem::new(alloc, Tables::new(alloc), Vec::new(alloc));
+    let (wrote, _) = call_on(alloc, words, input, way, keeper)?;
+    Ok(wrote)
+}
+
+/// Calls the program on an input in memory and a keeper. It gives what was written, and what was left.
+fn call_on(
+    alloc: Global,
+    words: &[&str],
+    input: &[u8],
+    way: Way,
+    keeper: KeeperMem,
+) -> Result<(Wrote, Served<KeeperMem>), NoMemory> {
     let cut = way.cut.max(1);
     let words = words_of(alloc, words)?;
     let input = Vec::from_slice(alloc, input)?;
     let mut source = MemSource::new(input, cut, failing(alloc, way.failing_read)?);
     let failing_writes = failing(alloc, way.failing_write)?;
     let mut output = MemSink::new(alloc, 4_096, cut, failing_writes)?;
-    let served = desk_top(alloc, &words, &mut source, &mut output);
-    Ok(Wrote {
-        status: served.status,
-        output,
-    })
+    let served = desk_top(alloc, &words, &mut source, &mut output, keeper);
+    let status = served.status;
+    Ok((Wrote { status, output }, served))
 }
 
 /// Checks the status and the output of a call with one word; lines end with semicolons.

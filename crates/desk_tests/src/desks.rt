@@ -1,6 +1,8 @@
 //! Tests of what a desk answers, call after call.
 
+use crate::opened::empty_desk;
 use desk_core::Desk;
+use desk_keeper::KeeperMem;
 use desk_types::{Call, Fault, Refusal, Reply, Settings, Spot};
 use query_words::Text;
 use std::alloc::{AllocError, Global};
@@ -146,7 +148,7 @@ fn is_shown(spot: &Spot, behind: u64, first: u64, shown: (Shown, u64)) -> bool {
 }
 
 /// Whether a desk answers a call at a moment as is told.
-fn answers(alloc: Global, desk: &mut Desk, moment: u64, row: &Row) -> bool {
+fn answers(alloc: Global, desk: &mut Desk<KeeperMem>, moment: u64, row: &Row) -> bool {
     let (asked, told) = row;
     let Ok(call) = call_of(alloc, *asked) else {
         return false;
@@ -155,15 +157,20 @@ fn answers(alloc: Global, desk: &mut Desk, moment: u64, row: &Row) -> bool {
 }
 
 /// Makes the calls of a table on a desk, each of which is to be answered as is told.
-fn check(rt: &(impl Abort + AllocGlobal), desk: &mut Desk, rows: &[Row]) {
+fn check(rt: &(impl Abort + AllocGlobal), desk: &mut Desk<KeeperMem>, rows: &[Row]) {
     for (number, row) in rows.iter().enumerate() {
         assert!(rt; answers(rt.alloc(), desk, 1, row), "row {number}");
     }
 }
 
+/// A new desk with these settings.
+fn new_desk(rt: &(impl Abort + AllocGlobal), settings: Settings) -> Desk<KeeperMem> {
+    empty_desk(rt.alloc(), settings).expect(rt, "there is memory")
+}
+
 /// The same of calls at their moments, on a new desk.
 fn check_at(rt: &(impl Abort + AllocGlobal), rows: &[(u64, Row)]) {
-    let mut desk = Desk::new(rt.alloc(), Settings::usual());
+    let mut desk = new_desk(rt, Settings::usual());
     for (number, (moment, row)) in rows.iter().enumerate() {
         assert!(rt;
             answers(rt.alloc(), &mut desk, *moment, row),
@@ -174,7 +181,7 @@ fn check_at(rt: &(impl Abort + AllocGlobal), rows: &[(u64, Row)]) {
 
 /// The same on a new desk with the usual settings.
 fn check_new(rt: &(impl Abort + AllocGlobal), rows: &[Row]) {
-    check(rt, &mut Desk::new(rt.alloc(), Settings::usual()), rows);
+    check(rt, &mut new_desk(rt, Settings::usual()), rows);
 }
 
 /// A reserve, a floor, places, entries and bytes of a journal, and placements.
@@ -187,5 +194,5 @@ fn check_with(rt: &(impl Abort + AllocGlobal), numbers: Numbers, rows: &[Row]) {
         rt,
         "they are in range",
     );
-    check(rt, &mut Desk::new(rt.alloc(), settings), rows);
+    check(rt, &mut new_desk(rt, settings), rows);
 }

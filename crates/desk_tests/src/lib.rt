@@ -1,4 +1,5 @@
-//! Tests of the ledger's types, of the book of accounts, of placements, of the desk and of scripts, by their public calls.
+//! Tests of the ledger's types, of the book of accounts, of placements, of keepers, of the desk and of scripts, by their
+//! public calls.
 //! They stand here and not in their crates, since a crate with tests is proved twice.
 #![tactic(auto)]
 
@@ -8,6 +9,10 @@ mod books;
 mod desks;
 #[cfg(test)]
 mod fates;
+#[cfg(test)]
+mod keepers;
+#[cfg(test)]
+mod opened;
 #[cfg(test)]
 mod scripts;
 #[cfg(test)]

@@ -2,8 +2,9 @@
 
 use super::Asked::{Account, Campaign, Line, Search};
 use super::Told::{Made, Page};
-use super::{LINK, ONE, Row, check};
+use super::{LINK, ONE, Row, check, new_desk};
 use desk_core::Desk;
+use desk_keeper::KeeperMem;
 use desk_types::{Call, ImportRow, Refusal, Reply, Settings};
 use query_words::{List, Text};
 use std::alloc::{AllocError, Global};
@@ -65,7 +66,7 @@ fn many_rows(alloc: Global, count: u64) -> Result<Vec<ImportRow>, AllocError> {
 /// The answer to the import of a batch of these rows.
 fn imported(
     alloc: Global,
-    desk: &mut Desk,
+    desk: &mut Desk<KeeperMem>,
     batch: u64,
     rows: Result<Vec<ImportRow>, AllocError>,
 ) -> Option<Reply> {
@@ -91,7 +92,7 @@ fn is_imported(reply: Option<Reply>, from: u64, lines: u64) -> bool {
 #[test]
 fn an_import_is_made_whole_and_once(rt: HostRuntime) {
     let alloc = rt.alloc();
-    let mut desk = Desk::new(alloc, Settings::usual());
+    let mut desk = new_desk(&rt, Settings::usual());
     check(&rt, &mut desk, &OPENED);
     assert!(rt; is_bad_row(imported(alloc, &mut desk, 5, rows_of(alloc, &BAD)), 2, 7));
     assert!(rt; is_imported(imported(alloc, &mut desk, 5, rows_of(alloc, &GOOD)), 2, 3));
@@ -102,7 +103,7 @@ fn an_import_is_made_whole_and_once(rt: HostRuntime) {
 #[test]
 fn an_import_fills_an_account_up_to_1000_lines(rt: HostRuntime) {
     let alloc = rt.alloc();
-    let mut desk = Desk::new(alloc, Settings::usual());
+    let mut desk = new_desk(&rt, Settings::usual());
     check(&rt, &mut desk, &OPENED);
     assert!(rt;
         is_bad_row(

@@ -2,8 +2,10 @@
 
 use super::Asked::{Account, Campaign, Click, Drop, Line, Negative, Search};
 use super::Told::{Done, Full, Made, No, Page};
-use super::{LINK, NO_PLACE, ONE, Row, check, check_with, search_of};
+use super::{LINK, NO_PLACE, ONE, Row, check, check_with, new_desk, search_of};
+use crate::opened::empty_desk;
 use desk_core::Desk;
+use desk_keeper::KeeperMem;
 use desk_types::Refusal::{
     AccountsFull, CampaignsFull, NegativesFull, NoPlacement, PlacementsFull, QueryTooLong,
 };
@@ -47,19 +49,19 @@ fn call_for(alloc: Global, thing: Thing, word: &str) -> Result<Call, AllocError>
 }
 
 /// The answer to the call that makes a thing, whose word is this number.
-fn made(alloc: Global, desk: &mut Desk, thing: Thing, number: u64) -> Option<Reply> {
+fn made(alloc: Global, desk: &mut Desk<KeeperMem>, thing: Thing, number: u64) -> Option<Reply> {
     let word = format!(in alloc; "{number}").ok()?;
     let call = call_for(alloc, thing, word.as_str()).ok()?;
     desk.call(1, 1, call).ok()
 }
 
 /// Whether a thing is made as the one of this number.
-fn is_made(alloc: Global, desk: &mut Desk, thing: Thing, number: u64) -> bool {
+fn is_made(alloc: Global, desk: &mut Desk<KeeperMem>, thing: Thing, number: u64) -> bool {
     matches!(made(alloc, desk, thing, number), Some(Reply::Made(found)) if found == number)
 }
 
 /// Whether a further thing is refused so.
-fn is_refused(alloc: Global, desk: &mut Desk, thing: Thing, full: Refusal) -> bool {
+fn is_refused(alloc: Global, desk: &mut Desk<KeeperMem>, thing: Thing, full: Refusal) -> bool {
     matches!(made(alloc, desk, thing, 0), Some(Reply::Refused(found)) if found == full)
 }
 
@@ -70,8 +72,8 @@ fn check_filled(
     first: u64,
     last: u64,
     full: Refusal,
-) -> Desk {
-    let mut desk = Desk::new(rt.alloc(), Settings::usual());
+) -> Desk<KeeperMem> {
+    let mut desk = new_desk(rt, Settings::usual());
     check(rt, &mut desk, &OPENED);
     for number in first..=last {
         assert!(rt; is_made(rt.alloc(), &mut desk, thing, number), "{number}");
@@ -140,7 +142,8 @@ fn placements_and_the_journal_end_at_their_limits(rt: HostRuntime) {
 fn searched(alloc: Global, letters: usize) -> Option<Reply> {
     let text = "a".repeat(alloc, letters).ok()?;
     let search = search_of(alloc, text.as_str(), None).ok()?;
-    Desk::new(alloc, Settings::usual()).call(1, 1, search).ok()
+    let mut desk = empty_desk(alloc, Settings::usual()).ok()?;
+    desk.call(1, 1, search).ok()
 }
 
 #[test]
@@ -152,7 +155,7 @@ fn a_query_has_1024_bytes_at_most(rt: HostRuntime) {
 
 #[test]
 fn a_desk_makes_room_and_tells_its_entries(rt: HostRuntime) -> Result<(), Fail> {
-    let mut desk = Desk::new(rt.alloc(), Settings::usual());
+    let mut desk = new_desk(&rt, Settings::usual());
     desk.reserve(7)?;
     check(&rt, &mut desk, &OPENED);
     assert_eq!(rt; desk.log().len(), 2);

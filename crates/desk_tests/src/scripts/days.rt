@@ -1,6 +1,7 @@
 //! Scripts on a desk: fates, midnight, budgets, reports and statements.
 
-use desk_core::{Desk, Solo};
+use crate::opened::empty_desk;
+use desk_core::Solo;
 use desk_io::{MemSink, MemSource};
 use desk_types::Settings;
 use query_words::NoMemory;
@@ -21,7 +22,7 @@ fn lines_of(alloc: Global, text: &str) -> Result<Vec<u8>, NoMemory> {
 
 /// What a script on a new desk with these settings is answered.
 fn answered(alloc: Global, settings: Settings, lines: &str) -> Result<Vec<u8>, NoMemory> {
-    let mut service = Solo::new(Desk::new(alloc, settings), 1);
+    let mut service = Solo::new(empty_desk(alloc, settings)?, 1);
     let mut input = MemSource::new(lines_of(alloc, lines)?, 4_096, Vec::new(alloc));
     let mut output = MemSink::new(alloc, 100_000, 4_096, Vec::new(alloc))?;
     let _ = script(alloc, &mut service, &mut input, &mut output);

@@ -158,14 +158,14 @@ numbers : ℕ → ℕ → ℕ → ℕ → ℕ → ℕ → ℕ → CampaignDay
 numbers budget shown clicks spent escrowed free credited =
     record { campaign = 1; budget = budget; shown = shown; clicks = clicks; spent = spent; escrowed = escrowed; free = free; credited = credited }
 
-row : ℕ → ShownFate → ShownRow
-row number fate = record { placement = number; campaign = 1; line = 1; place = 1; price = 5; shown = 100; fate = fate }
+shown_as : ℕ → ShownFate → ShownRow
+shown_as number fate = record { placement = number; campaign = 1; line = 1; place = 1; price = 5; shown = 100; fate = fate }
 
 -- a click that is credited goes to the statement, and the day's budget stays spent; what was not clicked in time has expired
 credited_once : replies (left (empty usual) three_shown) ((1900, Credit 2) ∷ (1900, Credit 9) ∷ (1900, Credit 1) ∷ (1900, Credit 1) ∷ (1900, Report 1 secret 0) ∷ (50, Shown 1 secret 0 1) ∷ (50, Shown 1 secret 0 3) ∷ [])
     ≡ Refused refused.NotSettled ∷ Refused refused.NoPlacement ∷ Credited 5 ∷ Credited 5 ∷ Day (record { day = 0; rows = numbers 1000 3 1 5 0 995 5 ∷ [] })
-    ∷ ShownRows (row 1 (told.Credited 1899 1900) ∷ row 2 told.Expired ∷ row 3 told.Expired ∷ []) ∷ ShownRows (row 3 told.Expired ∷ []) ∷ []
-unfolding everything secret link with_budget three_shown left numbers row
+    ∷ ShownRows (shown_as 1 (told.Credited 1899 1900) ∷ shown_as 2 told.Expired ∷ shown_as 3 told.Expired ∷ []) ∷ ShownRows (shown_as 3 told.Expired ∷ []) ∷ []
+unfolding everything secret link with_budget three_shown left numbers shown_as
 credited_once = refl
 
 -- a placement is in the report of the day on which it was shown

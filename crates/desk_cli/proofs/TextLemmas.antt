@@ -12,9 +12,9 @@ use Rattle.std.proofs.lemmas.Str.Ascii.{IsAscii-nil, IsAscii-cons}
 use Rattle.std.proofs.lemmas.Bool.Decides.{nat_tests}
 use Rattle.std.proofs.lemmas.Grind.{common_steps}
 use Rattle.auction_types.specs.declared.limits.TheConstants.{BID_MIN, BID_MAX, QUALITY_MIN, QUALITY_MAX, FLOOR_MAX, PLACES_MAX}
-use Rattle.script_api.proofs.NumberLemmas.{numeral-IsUtf8}
+use Rattle.desk_io.proofs.NumberLemmas.{numeral-IsUtf8}
 use Rattle.script_api.specs.LineFields.{fields}
-use Rattle.script_api.specs.Number.{is_numeral, number_within}
+use Rattle.desk_io.specs.Number.{is_numeral, number_within}
 use Rattle.desk_cli.specs.declared.limits.TheConstants.{NUMBER_MAX, FREE_MAX}
 use Rattle.desk_cli.specs.declared.form.LineName.{LineName}
 use Rattle.desk_cli.specs.Form.{parts, heading_from, heading_of_fields, heading_in, name_from, name_of_parts, name_in, ad_from, ad_of_fields, ad_in, has_outer_space}

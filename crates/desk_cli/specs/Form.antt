@@ -7,7 +7,7 @@ use Rattle.desk_cli.specs.HeadingValue.{HeadingValue}
 use Rattle.desk_cli.specs.declared.form.LineName.{LineName}
 use Rattle.desk_cli.specs.declared.form.AdLine.{AdLine}
 use Rattle.script_api.specs.LineFields.{fields}
-use Rattle.script_api.specs.Number.{number_within}
+use Rattle.desk_io.specs.Number.{number_within}
 
 -- whether a space stands at an end of the line
 unfoldable pub has_outer_space : List ℕ → Bool

@@ -8,8 +8,8 @@ use crate::limits::{FREE_MAX, NUMBER_MAX};
 use crate::parts::three_parts;
 use auction_types::Ad;
 use auction_types::limits::{BID_MAX, BID_MIN, FLOOR_MAX, PLACES_MAX, QUALITY_MAX, QUALITY_MIN};
+use desk_io::number::number_in;
 use script_api::fields::{five_fields, four_fields};
-use script_api::number::number_in;
 
 /// The triple that names a line, each number 1 to 1,000,000.
 #[derive(Clone, Copy, Debug, PartialEq, Eq, Hash)]

@@ -15,3 +15,4 @@ mod Returns
 pub mod ToldLaws
 mod NextTold
 pub mod ReadSoFar
+pub mod NumberLemmas

@@ -7,6 +7,7 @@ pub mod Lines
 pub mod Reader
 pub mod WindowValue
 pub mod NextLine
+pub mod Number
 pub mod NumberedValue
 pub mod NumberedLines
 pub mod SourceInMemory

@@ -4,9 +4,9 @@ use Rattle.desk_io.specs.Reading.{Reads, ReadsWithin}
 use Rattle.desk_io.specs.declared.source.Got.{Got}
 use Rattle.desk_io.specs.declared.source.Got.TheVariants.{Bytes, End, Failed}
 
--- the text of the last line, the bytes read ahead behind it, how many bytes there is room for behind these, and in all
+-- the bytes cut last, the bytes read ahead behind them, how many bytes there is room for behind these, and in all
 pub record WindowValue : Type 0 where
-  pub line : List ℕ
+  pub cut : List ℕ
   pub held : List ℕ
   pub behind : ℕ
   pub size : ℕ

@@ -14,6 +14,7 @@ mod mem_clock;
 mod mem_link;
 mod mem_sink;
 mod mem_source;
+pub mod number;
 mod numbered_lines;
 mod out_buf;
 mod pair;
@@ -42,6 +43,7 @@ pub use sink::{Put, Sink};
 pub use source::{Got, Source};
 pub use std_ends::{StdSink, StdSource};
 pub use wall_clock::WallClock;
+pub use window::Window;
 
 /// Want of memory.
 pub type NoMemory = std::alloc::AllocError;

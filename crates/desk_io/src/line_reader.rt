@@ -49,7 +49,7 @@ impl Model for LineReader {
 
     ghost Value = { ReaderValue };
 
-    ghost view = { λ r. record { max = r.max; held = r.window.held; line = r.window.line; is_ended = r.is_ended } };
+    ghost view = { λ r. record { max = r.max; held = r.window.held; line = r.window.cut; is_ended = r.is_ended } };
 
     // no line feed stands among the bytes that were searched
     ghost invariant = { λ r. (r.window.size ≡ r.max + BLOCK)
@@ -108,7 +108,7 @@ impl LineReader {
     pub fn line(&self) -> &[u8]
         ensures { result.now ≡ self.now.line }
     {
-        self.window.line()
+        self.window.last_cut()
     }
 
     /// Whether a line feed ended the last line. The line that the end of the source ended is the last of all.
@@ -140,7 +140,7 @@ impl LineReader {
     fn forget_line(&mut self)
         ensures { self.new ≡ record self.old { line = [] } }
     {
-        self.window.forget_line();
+        self.window.forget_cut();
     }
 
     // How many of the bytes held stand before the first line feed, or before their end. Only what was not searched yet is searched.

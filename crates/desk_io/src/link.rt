@@ -10,4 +10,7 @@ pub trait Link: Source + Sink {
     ghost sink_side_is: { (l : Self) → Self.sink_side l ≡ Self.sink l };
 
     ghost source_side_is: { (l : Self) → Self.source_side l ≡ Self.source l };
+
+    // both ways go through the same borrows
+    ghost lenders_are: { (l : Self) → (Self.source l).lenders ≡ (Self.sink l).lenders };
 }

@@ -95,4 +95,6 @@ impl Link for MemLink {
     ghost sink_side_is = { λ _. refl };
 
     ghost source_side_is = { λ _. refl };
+
+    ghost lenders_are = { λ _. refl };
 }

@@ -59,4 +59,6 @@ impl<S: Source, T: Sink> Link for Pair<'_, S, T> {
     ghost sink_side_is = { λ _. refl };
 
     ghost source_side_is = { λ _. refl };
+
+    ghost lenders_are = { λ _. refl };
 }

@@ -1,4 +1,3 @@
-pub mod NumberLemmas
 pub mod SpaceLemmas
 pub mod FieldLemmas
 pub mod BarLemmas

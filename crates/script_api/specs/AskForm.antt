@@ -2,7 +2,7 @@
 use Rattle.std.specs.Prelude.{ℕ, List, [], ◌∷◌, Option, Some, None}
 use Rattle.desk_types.specs.declared.call.Call.{Call}
 use Rattle.desk_types.specs.declared.call.Call.TheVariants.{HostReport, Report, Shown}
-use Rattle.script_api.specs.Number.{number}
+use Rattle.desk_io.specs.Number.{number}
 
 -- `D`
 abbrev pub host_from : Option ℕ → Option Call

@@ -2,7 +2,7 @@
 use Rattle.std.specs.Prelude.{ℕ, nat_lt, if◌then◌else◌, List, [], ◌∷◌, length, codes, bytes_eq, Option, Some, None, option_map}
 use Rattle.desk_types.specs.declared.call.Call.{Call}
 use Rattle.desk_types.specs.declared.call.Call.TheVariants.{AddAccount, AddCampaign, AddLine, AddNegative, DropNegative, Search, Click}
-use Rattle.script_api.specs.Number.{number}
+use Rattle.desk_io.specs.Number.{number}
 use Rattle.script_api.specs.LineFields.{fields, unspaced, behind_first, behind_third, behind_fifth}
 use Rattle.script_api.specs.Bar.{cut_at_bar, both}
 use Rattle.script_api.specs.AskForm.{host_call, report_call, shown_call}

@@ -4,7 +4,7 @@ use Rattle.desk_types.specs.declared.call.Call.{Call}
 use Rattle.desk_types.specs.declared.call.Call.TheVariants.{SetQuality, Suspend, Credit, SetBudget, SetBid, Pause}
 use Rattle.desk_types.specs.declared.call.Part.{Part}
 use Rattle.desk_types.specs.declared.call.Part.TheVariants.{OfCampaign, OfLine}
-use Rattle.script_api.specs.Number.{number}
+use Rattle.desk_io.specs.Number.{number}
 
 -- `on` or `off`, and whether it is on
 abbrev pub switch_spelled : List ℕ → Option Bool

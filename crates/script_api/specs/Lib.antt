@@ -1,4 +1,3 @@
-pub mod Number
 pub mod LineFields
 pub mod Bar
 pub mod Command

@@ -5,7 +5,7 @@ use Rattle.desk_types.specs.declared.call.Call.{Call}
 use Rattle.script_api.specs.declared.command.CallWord.{CallWord}
 use Rattle.script_api.specs.declared.line.ScriptLine.{ScriptLine}
 use Rattle.script_api.specs.declared.line.ScriptLine.TheVariants.{Timed, Bad}
-use Rattle.script_api.specs.Number.{number}
+use Rattle.desk_io.specs.Number.{number}
 use Rattle.script_api.specs.LineFields.{fields, unspaced_end, behind_first}
 use Rattle.script_api.specs.Command.{call_named}
 use Rattle.script_api.specs.CallForm.{call_spelled}

@@ -6,8 +6,8 @@ ghost use Rattle.script_api.specs.AskForm.{host_call, report_call, shown_call};
 ghost use Rattle.script_api.specs.CallParts.{Spells};
 
 use crate::fields::{four_fields, one_field, three_fields};
-use crate::number::number;
 use crate::parts::{AdvertiserParts, CallParts, HostParts};
+use desk_io::number::number;
 
 /// `D`
 #[tactic(auto, using(crate::proofs::AskLemmas::host_else))]

@@ -14,8 +14,8 @@ use crate::edits::{
 use crate::fields::{
     first_field, first_five, first_three, one_field, three_fields, without_spaces,
 };
-use crate::number::number;
 use crate::parts::{AdvertiserParts, CallParts, HostParts, LineParts};
+use desk_io::number::number;
 
 /// The call of a command by the text behind it, or `None` where the text is in another form.
 #[tactic(auto, unfolding(crate::specs::CallForm::call_spelled))]

@@ -6,8 +6,8 @@ ghost use Rattle.script_api.specs.EditForm.{quality_call, suspend_call, credit_c
 ghost use Rattle.script_api.specs.CallParts.{Spells};
 
 use crate::fields::{five_fields, four_fields, one_field, three_fields, two_fields};
-use crate::number::number;
 use crate::parts::{AdvertiserParts, CallParts, HostParts};
+use desk_io::number::number;
 use desk_types::Part;
 
 /// `A L NUMBER`

@@ -13,7 +13,6 @@ mod edits;
 mod ending;
 pub mod fields;
 mod line;
-pub mod number;
 mod parts;
 mod reply_line;
 mod report_line;

@@ -6,7 +6,7 @@ ghost use Rattle.script_api.specs.Script.{script_line, spelled_by_text, spelled_
 use crate::call::read_call;
 use crate::command::call_word;
 use crate::fields::{first_field, without_end_spaces};
-use crate::number::number;
+use desk_io::number::number;
 use desk_types::Call;
 use query_words::NoMemory;
 use std::alloc::Global;

@@ -1,0 +1,3 @@
+pub mod DayTable
+pub mod TableLine
+pub mod Totals

@@ -1,0 +1,3 @@
+mod FieldLemmas
+mod ImportLemmas
+mod LawLemmas

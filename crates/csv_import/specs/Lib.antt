@@ -1,0 +1,2 @@
+pub mod ImportFile
+pub mod ShownCsv

@@ -1,0 +1,14 @@
+use Rattle.std.proofs.Common.{ℕ, not, refl, ◌∙◌, rules, tests}
+use Rattle.std.proofs.lemmas.Iterator.{YieldsList-from_slice}
+use Rattle.std.proofs.lemmas.Iterator.Search.{position_from_yields_List}
+use Rattle.httparse.specs.Grammar.{is_ows}
+use Rattle.http_api.proofs.FieldsTrimmed.{place_or, front_fits}
+use Rattle.http_api.proofs.close.spaces_in_front.Goals as goal
+
+pub returns : goal.returns
+returns c =
+    let is =
+    c.unwrap_or.ensures
+    ∙ place_or (λ (byte : ℕ). not (is_ows byte)) c.args.bytes.now c.position.result _
+    (position_from_yields_List (λ (byte : ℕ). not (is_ows byte)) _ _ c.position.result c.position.ensures.ran (YieldsList-from_slice c.args.bytes.now (cc)) (λ x b q k. search (rules, tests))) refl in
+    record { count = is; fits = front_fits c.args.bytes.now c.unwrap_or.result is }

@@ -33,6 +33,19 @@ one-word [] shown word bytes text r one is same tested = absurd (omega arith)
 one-word (w ∷ []) shown word bytes text r one is same tested = rw (ap shown (sym is) ∙ sym same) (word-is bytes text r tested)
 one-word (w ∷ v ∷ more) shown word bytes text r one is same tested = absurd (omega arith)
 
+-- a list of three words, each at its place
+pub three-words : {Z : Type 0} (words : List Z) (shown : Z → List ℕ) (a b d : Z) → length words ≡ 3 → a ≡ get_or words 0 a → b ≡ get_or words 1 b → d ≡ get_or words 2 d →
+    map shown words ≡ shown a ∷ shown b ∷ shown d ∷ []
+three-words [] shown a b d three is-a is-b is-d = absurd (omega arith)
+three-words (u ∷ []) shown a b d three is-a is-b is-d = absurd (omega arith)
+three-words (u ∷ v ∷ []) shown a b d three is-a is-b is-d = absurd (omega arith)
+three-words (u ∷ v ∷ w ∷ []) shown a b d three is-a is-b is-d = cc
+three-words (u ∷ v ∷ w ∷ x ∷ more) shown a b d three is-a is-b is-d = absurd (omega arith)
+
+-- the words of `run`, of which two are tested
+pub run-words : {m : List (List ℕ)} {a b d x y z run option : List ℕ} → m ≡ a ∷ b ∷ d ∷ [] → x ≡ a → y ≡ b → z ≡ d → x ≡ run → y ≡ option → m ≡ run ∷ option ∷ z ∷ []
+run-words words x-is y-is z-is run-is option-is = cc
+
 -- a call that says a printout with a status other than 0 answers another status too
 pub written-not_0 : (o q : SinkView) (printout : Printout) (status : ℕ) → printout.status ≢ 0 → IsWritten o q printout status → status ≢ 0
 written-not_0 o q printout status other (inl (inl all)) = λ zero. other (sym all.answered ∙ zero)

@@ -8,3 +8,4 @@ pub mod OnPage
 pub mod Sending
 pub mod Answering
 pub mod Throughout
+pub mod Paired

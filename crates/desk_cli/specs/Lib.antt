@@ -6,4 +6,5 @@ pub mod Ending
 pub mod Printout
 pub mod Saying
 pub mod ScriptCall
+pub mod RunCall
 pub mod TopCall

@@ -1,10 +1,11 @@
 -- How a call of the program ends.
-use Rattle.std.specs.Prelude.{◌≡◌, ℕ, ◌⊎◌, List, [], ◌∷◌, codes, Option, None, Some, IfSome, option_map, Result}
+use Rattle.std.specs.Prelude.{◌≡◌, ℕ, ◌⊎◌, true, List, [], ◌∷◌, codes, Option, None, Some, IfSome, option_map, Result}
 use Rattle.desk_io.specs.Faults.{Rose}
 use Rattle.desk_io.specs.SourceView.{SourceView}
 use Rattle.desk_io.specs.declared.numbered_lines.LineFault.{LineFault}
 use Rattle.desk_io.specs.SinkView.{SinkView}
 use Rattle.desk_types.specs.declared.tables.BadTables.{BadTables}
+use Rattle.desk_types.specs.Fields.{is_key}
 use Rattle.desk_types.specs.SettingsValue.{usual}
 use Rattle.desk_keeper.specs.KeeperView.{KeeperView}
 use Rattle.desk_core.specs.DeskValue.{DeskValue, IsRunOfLedger, name_of}
@@ -14,13 +15,18 @@ use Rattle.desk_cli.specs.declared.script.Served.{Served}
 use Rattle.desk_cli.specs.Ending.{IsCutOff}
 use Rattle.desk_cli.specs.Printout.{Printout, bad_tables_printout, keeper_fault_printout, printout_of, read_fault_printout, refused_printout}
 use Rattle.desk_cli.specs.Reading.{AuctionValue, auction_in}
-use Rattle.desk_cli.specs.declared.status.TheConstants.{NO_MEMORY}
+use Rattle.desk_cli.specs.declared.status.TheConstants.{ENDED, NO_MEMORY}
 use Rattle.desk_cli.specs.Saying.{IsSilent, IsWritten}
+use Rattle.desk_cli.specs.RunCall.{IsSessionServed, RunState, run_at}
 use Rattle.desk_cli.specs.ScriptCall.{CallState, HoldsThroughout, IsScriptServed}
 
 -- the words are this one word
 abbrev pub AreWord : List ℕ → List (List ℕ) → Type 0
 AreWord word words = words ≡ word ∷ []
+
+-- the words are those of `run`, with this key of the host
+abbrev pub AreRun : List ℕ → List (List ℕ) → Type 0
+AreRun key words = (words ≡ codes "run" ∷ codes "--host-key" ∷ key ∷ []) × (is_key key ≡ true)
 
 -- a read failed, before any line with a fault
 pub record IsReadFault (source source_now : SourceView) (printout : Printout) : Type 0 where
@@ -54,13 +60,24 @@ abbrev pub left_by : {K : Type 0} → (K → KeeperView) → Served K → Left
 left_by view served =
     record { status = served.status; desk = served.desk; keeper = option_map view served.keeper }
 
--- a call before and after it: its words, the keeper handed in, the input and the output, and what it leaves
+-- a call before and after it: its words, the keeper handed in, the input and the output, the moments of the clock, where
+-- it tells them, and what the call leaves
 pub record TopCall : Type 0 where
   pub words : List (List ℕ)
   pub keeper : KeeperView
   pub before : CallState
   pub after : CallState
+  pub moments : Option (List ℕ)
+  pub moments_now : Option (List ℕ)
   pub left : Left
+
+-- the clock is not asked
+abbrev pub IsTimeless : TopCall → Type 0
+IsTimeless c = c.moments_now ≡ c.moments
+
+-- where the call ended well, nothing is left of the input
+abbrev pub IsAllRead : TopCall → Type 0
+IsAllRead c = c.left.status ≡ ENDED → IfSome c.after.source.left (λ bytes. bytes ≡ [])
 
 -- no desk is opened, and nothing is asked of the keeper
 pub record HasNoDesk (c : TopCall) : Type 0 where
@@ -71,6 +88,8 @@ pub record HasNoDesk (c : TopCall) : Type 0 where
 pub record IsRefused (c : TopCall) : Type 0 where
   pub no_auction : ¬ (AreWord (codes "auction") c.words)
   pub no_script : ¬ (AreWord (codes "script") c.words)
+  pub no_run : (key : List ℕ) → ¬ (AreRun key c.words)
+  pub timeless : IsTimeless c
   pub unread : c.after.source ≡ c.before.source
   pub said : IsWritten c.before.sink c.after.sink refused_printout c.left.status
   pub unopened : HasNoDesk c
@@ -79,6 +98,8 @@ pub record IsRefused (c : TopCall) : Type 0 where
 pub record IsAuction (c : TopCall) : Type 0 where
   pub words_are : AreWord (codes "auction") c.words
   pub run : IsAuctionServed c.before c.after c.left.status
+  pub all_read : IsAllRead c
+  pub timeless : IsTimeless c
   pub unopened : HasNoDesk c
 
 -- the desk is opened on the keeper with the usual settings, and is the ledger's run
@@ -93,15 +114,19 @@ pub record IsOpenedOn (keeper : KeeperView) (desk : DeskValue) : Type 0 where
 abbrev pub IsSameOpening : DeskValue → DeskValue → Type 0
 IsSameOpening desk desk_now = name_of desk_now ≡ name_of desk
 
--- the script is served by a desk on the keeper, whose entries are all the caller's
-pub record IsServed (keeper : KeeperView) (before after : CallState) (left : Left) : Type 0 where
-  pub desk : DeskValue
+-- the desk that was opened on the keeper is left, and its entries are all the caller's
+pub record IsDeskLeft (keeper : KeeperView) (left : Left) (desk : DeskValue) : Type 0 where
   pub there : left.desk ≡ Some desk
   pub no_keeper : left.keeper ≡ None
   pub opened : IsOpenedOn keeper desk
   pub own : AreOwn 1 desk.log
-  pub run : IsScriptServed before after desk left.status
   pub throughout : HoldsThroughout desk
+
+-- the script is served by a desk on the keeper
+pub record IsServed (keeper : KeeperView) (before after : CallState) (left : Left) : Type 0 where
+  pub desk : DeskValue
+  pub desk_left : IsDeskLeft keeper left desk
+  pub run : IsScriptServed before after desk left.status
 
 -- what is said where no desk is opened, and the status: the tables loaded break a rule, the keeper failed, or memory was
 -- wanted
@@ -135,7 +160,28 @@ ScriptEnds keeper before after left = IsServed keeper before after left ⊎ IsNo
 pub record IsScript (c : TopCall) : Type 0 where
   pub words_are : AreWord (codes "script") c.words
   pub run : ScriptEnds c.keeper c.before c.after c.left
+  pub all_read : IsAllRead c
+  pub timeless : IsTimeless c
+
+-- a session is served by a desk on the keeper; or no desk is opened, and the clock is not asked
+pub record IsRunServed (keeper : KeeperView) (before after : RunState) (left : Left) : Type 0 where
+  pub desk : DeskValue
+  pub desk_left : IsDeskLeft keeper left desk
+  pub run : IsSessionServed before after desk left.status
+
+pub record IsNotRun (keeper : KeeperView) (before after : RunState) (left : Left) : Type 0 where
+  pub not_served : IsNotServed keeper before.at after.at left
+  pub timeless : after.moments ≡ before.moments
+
+abbrev pub RunEnds : KeeperView → RunState → RunState → Left → Type 0
+RunEnds keeper before after left = IsRunServed keeper before after left ⊎ IsNotRun keeper before after left
+
+-- the words are those of `run`, and a desk serves the session, or none is opened
+pub record IsRun (c : TopCall) : Type 0 where
+  pub key : List ℕ
+  pub words_are : AreRun key c.words
+  pub run : RunEnds c.keeper (run_at key c.before c.moments) (run_at key c.after c.moments_now) c.left
 
 -- how a call ends, by its words
 abbrev pub CallEnds : TopCall → Type 0
-CallEnds c = (IsAuction c ⊎ IsScript c) ⊎ IsRefused c
+CallEnds c = ((IsAuction c ⊎ IsScript c) ⊎ IsRun c) ⊎ IsRefused c

@@ -1,8 +1,8 @@
 //! The program `desk`: its words, its commands and their statuses.
 //! `desk_top` reads an auction and writes its page: the best ads at the least prices that keep their places; or it
-//! serves the calls of a script by one desk, whose answers are the ledger's.
-//! It stands on `desk_core` and `script_api`, and for auctions on `desk_io`, `gsp_price` and `rank_core`.
-//! `main` makes the real input and output, and nothing else.
+//! serves the calls of a script, or of a session of HTTP, by one desk, whose answers are the ledger's.
+//! It stands on `desk_core`, `script_api` and `http_api`, and for auctions on `desk_io`, `gsp_price` and `rank_core`.
+//! `main` makes the real input, output and clock, and nothing else.
 #![tactic(auto)]
 
 mod auction;
@@ -13,13 +13,14 @@ mod limits;
 mod page;
 mod parts;
 mod reading;
+mod run;
 mod say;
 mod script;
 mod status;
 mod top;
 
 use crate::script::Served;
-use desk_io::{Sink, Source, StdSink, StdSource};
+use desk_io::{Clock, Sink, Source, StdSink, StdSource, WallClock};
 use desk_keeper::KeeperMem;
 use desk_types::Tables;
 use std::alloc::Global;
@@ -29,16 +30,20 @@ use std::{env, io, mem};
 fn main(rt: HostRuntime) -> ExitCode {
     let mut input = StdSource::new(rt.stdin());
     let mut output = StdSink::new(rt.stdout());
-    ExitCode::from(status_of(rt.alloc(), words_of(&rt), &mut input, &mut output))
+    let words = words_of(&rt);
+    let alloc = rt.alloc();
+    let mut clock = WallClock::new(rt);
+    ExitCode::from(status_of(alloc, words, &mut input, &mut output, &mut clock))
 }
 
 /// The status of the call by these words; 5 where they wanted memory, and words that cannot be read are
 /// refused.
-fn status_of<S: Source, T: Sink>(
+fn status_of<S: Source, T: Sink, C: Clock>(
     alloc: Global,
     words: io::Result<Vec<String>>,
     input: &mut S,
     output: &mut T,
+    clock: &mut C,
 ) -> u8 {
     let words = match words {
         Ok(words) => words,
@@ -50,7 +55,7 @@ fn status_of<S: Source, T: Sink>(
         status,
         desk,
         keeper,
-    } = top::desk_top(alloc, &words, input, output, keeper);
+    } = top::desk_top(alloc, &words, input, output, keeper, clock);
     // The process ends here, and gives back its memory as a whole.
     mem::forget(desk);
     mem::forget(keeper);

@@ -95,7 +95,11 @@ fn serve_desk<S: Source, T: Sink, K: Keeper>(
 }
 
 /// Says why no desk was opened, answers the status, and gives the keeper back.
-fn say_unopened<T: Sink, K: Keeper>(alloc: Global, output: &mut T, fault: OpenFault<K>) -> (u8, K)
+pub fn say_unopened<T: Sink, K: Keeper>(
+    alloc: Global,
+    output: &mut T,
+    fault: OpenFault<K>,
+) -> (u8, K)
     ensures said { (keeper : KeeperView) → IsUnopened K.keeper keeper fault →
         SaysUnopened keeper (K.keeper result.1) (T.sink output.old) (T.sink output.new) result.0 }
     ensures back { (keeper : KeeperView) → IsUnopened K.keeper keeper fault → HoldsAsBefore keeper (K.keeper result.1) }

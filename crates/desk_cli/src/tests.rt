@@ -2,7 +2,7 @@
 
 use crate::script::Served;
 use crate::top::desk_top;
-use desk_io::{MemSink, MemSource};
+use desk_io::{MemClock, MemSink, MemSource};
 use desk_keeper::KeeperMem;
 use desk_types::Tables;
 use std::alloc::{AllocError as NoMemory, Global};
@@ -13,6 +13,7 @@ mod auctions;
 mod ends;
 mod keepers;
 mod scripts;
+mod sessions;
 
 /// How a call goes: the size of the pieces, and the read and the write that fail, counted from 1;
 /// none fails where it is 0.
@@ -68,30 +69,46 @@ fn words_of(alloc: Global, words: &[&str]) -> Result<Vec<String>, NoMemory> {
     Ok(owned)
 }
 
+/// What a call is made on, but its keeper.
+#[derive(Drop)]
+struct Setting {
+    words: Vec<String>,
+    source: MemSource,
+    output: MemSink,
+    clock: MemClock,
+}
+
+/// Words, an input and an output in memory, and a clock at the moment 100.
+fn setting_of(alloc: Global, words: &[&str], input: &[u8], way: Way) -> Result<Setting, NoMemory> {
+    let cut = way.cut.max(1);
+    let input = Vec::from_slice(alloc, input)?;
+    Ok(Setting {
+        words: words_of(alloc, words)?,
+        source: MemSource::new(input, cut, failing(alloc, way.failing_read)?),
+        output: MemSink::new(alloc, 4_096, cut, failing(alloc, way.failing_write)?)?,
+        clock: MemClock::new(vec![in alloc; 100]?),
+    })
+}
+
 /// Calls the program on an input in memory, with a keeper that holds no rows.
 fn call(alloc: Global, words: &[&str], input: &[u8], way: Way) -> Result<Wrote, NoMemory> {
+    let setting = setting_of(alloc, words, input, way)?;
     let keeper = KeeperMem::new(alloc, Tables::new(alloc), Vec::new(alloc));
-    let (wrote, _) = call_on(alloc, words, input, way, keeper)?;
+    let (wrote, _) = call_on(alloc, setting, keeper);
     Ok(wrote)
 }
 
-/// Calls the program on an input in memory and a keeper. It gives what was written, and what was left.
-fn call_on(
-    alloc: Global,
-    words: &[&str],
-    input: &[u8],
-    way: Way,
-    keeper: KeeperMem,
-) -> Result<(Wrote, Served<KeeperMem>), NoMemory> {
-    let cut = way.cut.max(1);
-    let words = words_of(alloc, words)?;
-    let input = Vec::from_slice(alloc, input)?;
-    let mut source = MemSource::new(input, cut, failing(alloc, way.failing_read)?);
-    let failing_writes = failing(alloc, way.failing_write)?;
-    let mut output = MemSink::new(alloc, 4_096, cut, failing_writes)?;
-    let served = desk_top(alloc, &words, &mut source, &mut output, keeper);
+/// Calls the program on a keeper. It gives what was written, and what was left.
+fn call_on(alloc: Global, setting: Setting, keeper: KeeperMem) -> (Wrote, Served<KeeperMem>) {
+    let Setting {
+        words,
+        mut source,
+        mut output,
+        mut clock,
+    } = setting;
+    let served = desk_top(alloc, &words, &mut source, &mut output, keeper, &mut clock);
     let status = served.status;
-    Ok((Wrote { status, output }, served))
+    (Wrote { status, output }, served)
 }
 
 /// Checks the status and the output of a call with one word; lines end with semicolons.

@@ -5,7 +5,12 @@ use crate::status_of;
 use std::io::{self, ErrorKind};
 
 /// Words that the program does not take.
-const OTHER_WORDS: [&[&str]; 6] = [
+const OTHER_WORDS: [&[&str]; 11] = [
+    &["run"],
+    &["run", "--host-key", "seven77"],
+    &["run", "--host-key", "with a space"],
+    &["run", "--host-key=hostkey1"],
+    &["script", "--host-key", "hostkey1"],
     &[],
     &[""],
     &["auctions"],
@@ -30,8 +35,10 @@ fn words_that_want_memory_end_with_5(rt: HostRuntime) -> Result<(), Fail> {
     for (kind, status) in [(ErrorKind::OutOfMemory, 5), (ErrorKind::InvalidData, 2)] {
         let mut source = MemSource::new(Vec::new(alloc), 1, Vec::new(alloc));
         let mut sink = MemSink::new(alloc, 100, 100, Vec::new(alloc))?;
+        let mut clock = MemClock::new(Vec::new(alloc));
         let words = Err(io::Error::from(kind));
-        assert_eq!(rt; status_of(alloc, words, &mut source, &mut sink), status);
+        let found = status_of(alloc, words, &mut source, &mut sink, &mut clock);
+        assert_eq!(rt; found, status);
     }
     Ok(())
 }

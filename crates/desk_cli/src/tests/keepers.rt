@@ -34,13 +34,14 @@ const UNOPENED: [Case; 6] = [
 fn a_keeper_on_which_no_desk_is_opened_comes_back(rt: HostRuntime) -> Result<(), Fail> {
     let alloc = rt.alloc();
     for (word, number, failing_call, failing_write, status, output) in UNOPENED {
-        let fails = failing(alloc, failing_call)?;
-        let keeper = KeeperMem::new(alloc, one_account(alloc, number)?, fails);
         let way = Way {
             failing_write,
             ..in_pieces(100)
         };
-        let (wrote, served) = call_on(alloc, &[word], b"100 host 0\n", way, keeper)?;
+        let setting = setting_of(alloc, &[word], b"100 host 0\n", way)?;
+        let fails = failing(alloc, failing_call)?;
+        let keeper = KeeperMem::new(alloc, one_account(alloc, number)?, fails);
+        let (wrote, served) = call_on(alloc, setting, keeper);
         assert_eq!(rt; wrote.status, status, "{word} {number} {failing_call}");
         assert_eq!(rt;
             wrote.output.bytes(),
@@ -61,8 +62,10 @@ const FAULTED: &[u8] =
 #[test]
 fn a_script_goes_on_behind_a_keepers_fault(rt: HostRuntime) -> Result<(), Fail> {
     let alloc = rt.alloc();
-    let keeper = KeeperMem::new(alloc, Tables::new(alloc), failing(alloc, 3)?);
-    let (wrote, served) = call_on(alloc, &["script"], FAULTED, in_pieces(100), keeper)?;
+    let setting = setting_of(alloc, &["script"], FAULTED, in_pieces(100))?;
+    let fails = failing(alloc, 3)?;
+    let keeper = KeeperMem::new(alloc, Tables::new(alloc), fails);
+    let (wrote, served) = call_on(alloc, setting, keeper);
     assert_eq!(rt; wrote.status, 0);
     assert_eq!(rt;
         wrote.output.bytes(),

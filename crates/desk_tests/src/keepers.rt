@@ -1,5 +1,4 @@
-//! Tests of keepers, of the rules of tables, and of desks that are opened on kept rows.
+//! Tests of keepers, and of desks that are opened on kept rows.
 
 mod faults;
 mod reopened;
-mod rules;

@@ -13,7 +13,6 @@ use desk_types::{Call, Refusal, Reply, Settings};
 use query_words::Text;
 use std::alloc::{AllocError, Global};
 use std::process::Abort;
-use std::test::Fail;
 
 /// An account with a campaign.
 static OPENED: [Row; 2] = [
@@ -154,10 +153,9 @@ fn a_query_has_1024_bytes_at_most(rt: HostRuntime) {
 }
 
 #[test]
-fn a_desk_makes_room_and_tells_its_entries(rt: HostRuntime) -> Result<(), Fail> {
+fn a_desk_makes_room_and_tells_its_entries(rt: HostRuntime) {
     let mut desk = new_desk(&rt, Settings::usual());
-    desk.reserve(7)?;
+    desk.reserve(7).expect(&rt, "there is memory");
     check(&rt, &mut desk, &OPENED);
     assert_eq!(rt; desk.log().len(), 2);
-    Ok(())
 }

@@ -1,9 +1,9 @@
 //! A desk that is opened on the rows that another one left.
 
-ghost use Rattle.std.specs.Prelude.{IfOk};
+ghost use Rattle.std.specs.Prelude.{◌≡◌, []};
 ghost use Rattle.desk_core.specs.SoloValue.{AreOwn};
 
-use crate::opened::{desk_on, empty_desk};
+use crate::opened::{desk_on, empty_keeper};
 use desk_core::{Desk, Solo};
 use desk_io::{MemSink, MemSource};
 use desk_keeper::{KeeperMem, check};
@@ -11,23 +11,44 @@ use desk_types::{Settings, Summary};
 use query_words::NoMemory;
 use script_api::script;
 use std::alloc::Global;
+use std::process::Abort;
 use std::test::Fail;
 
-/// What a script on a desk is answered, and the desk.
-fn run(
-    alloc: Global,
-    desk: Desk<KeeperMem>,
-    lines: &str,
-) -> Result<(Vec<u8>, Desk<KeeperMem>), NoMemory>
-    requires { AreOwn 1 desk.log }
-    ensures { IfOk result (λ run. AreOwn 1 run.1.log) }
-{
-    let mut service = Solo::new(desk, 1);
+/// An input and an output in memory.
+#[derive(Drop)]
+struct Ends {
+    input: MemSource,
+    output: MemSink,
+}
+
+/// The input that holds these lines, and an output.
+fn ends_of(alloc: Global, lines: &str) -> Result<Ends, NoMemory> {
     let lines = Vec::from_slice(alloc, lines.as_bytes())?;
-    let mut input = MemSource::new(lines, 4_096, Vec::new(alloc));
-    let mut output = MemSink::new(alloc, 100_000, 4_096, Vec::new(alloc))?;
+    Ok(Ends {
+        input: MemSource::new(lines, 4_096, Vec::new(alloc)),
+        output: MemSink::new(alloc, 100_000, 4_096, Vec::new(alloc))?,
+    })
+}
+
+/// What a script on a desk is answered, and the desk.
+fn run(alloc: Global, desk: Desk<KeeperMem>, ends: Ends) -> (MemSink, Desk<KeeperMem>)
+    requires { AreOwn 1 desk.log }
+    ensures { AreOwn 1 result.1.log }
+{
+    let Ends {
+        mut input,
+        mut output,
+    } = ends;
+    let mut service = Solo::new(desk, 1);
     let _ = script(alloc, &mut service, &mut input, &mut output);
-    Ok((output.bytes().to_vec(alloc)?, service.end()))
+    (output, service.end())
+}
+
+/// A desk on a keeper whose tables are sound.
+fn desk_of(rt: &(impl Abort + AllocGlobal), keeper: KeeperMem) -> Desk<KeeperMem>
+    ensures { result.log ≡ [] }
+{
+    desk_on(rt.alloc(), keeper, Settings::usual()).expect(rt, "there is memory")
 }
 
 /// Two accounts with lines and negatives, pages, clicks, credits, budgets of two days, and edits of each kind.
@@ -45,20 +66,33 @@ const THEN: &str =
     86900 shown 2 secret02 1 1\n86900 host 0\n86900 host 1\n86900 search - red shoes\n86900 click 6\n86900 credit 4\n\
     86900 line 1 secret01 1 50 http://s.example/ shoes | Again\n86900 negative 1 secret01 1 old\n";
 
+/// Runs a script on a new desk and another on a desk that is opened on its rows; gives the answers to the second, and the
+/// keeper.
+fn reopened(rt: &(impl Abort + AllocGlobal), day: Ends, then: Ends) -> (MemSink, KeeperMem) {
+    let alloc = rt.alloc();
+    let (_, first) = run(
+        alloc,
+        desk_of(rt, empty_keeper(alloc, Vec::new(alloc))),
+        day,
+    );
+    let again = desk_of(rt, first.end());
+    assert_eq!(rt; again.log().len(), 0);
+    let (after, again) = run(alloc, again, then);
+    (after, again.end())
+}
+
 #[test]
 fn a_desk_on_the_rows_that_another_left_answers_as_that_one(rt: HostRuntime) -> Result<(), Fail> {
     let alloc = rt.alloc();
-    let (_, first) = run(alloc, empty_desk(alloc, Settings::usual())?, DAY)?;
-    let keeper = first.end();
+    let (day, then) = (ends_of(alloc, DAY)?, ends_of(alloc, THEN)?);
+    let (day_again, then_again) = (ends_of(alloc, DAY)?, ends_of(alloc, THEN)?);
+    let (after, keeper) = reopened(&rt, day, then);
     assert!(rt; check(alloc, keeper.tables()).is_ok());
-    let again = desk_on(alloc, keeper, Settings::usual())?;
-    assert_eq!(rt; again.log().len(), 0);
-    let (after, _) = run(alloc, again, THEN)?;
-    let (_, whole) = run(alloc, empty_desk(alloc, Settings::usual())?, DAY)?;
-    let (answers, whole) = run(alloc, whole, THEN)?;
-    assert!(rt; after == answers);
-    assert!(rt; !answers.is_empty());
-    assert!(rt; check(alloc, whole.end().tables()).is_ok());
+    let whole = desk_of(&rt, empty_keeper(alloc, Vec::new(alloc)));
+    let (_, whole) = run(alloc, whole, day_again);
+    let (answers, _) = run(alloc, whole, then_again);
+    assert!(rt; after.bytes() == answers.bytes());
+    assert!(rt; !answers.bytes().is_empty());
     Ok(())
 }
 
@@ -70,7 +104,9 @@ const COUNTED: &str = "100 account secret01\n100 campaign 1 secret01 1000\n\
 #[test]
 fn a_summary_counts_the_journal_and_the_placements(rt: HostRuntime) -> Result<(), Fail> {
     let alloc = rt.alloc();
-    let (_, desk) = run(alloc, empty_desk(alloc, Settings::usual())?, COUNTED)?;
+    let counted = ends_of(alloc, COUNTED)?;
+    let desk = desk_of(&rt, empty_keeper(alloc, Vec::new(alloc)));
+    let (_, desk) = run(alloc, desk, counted);
     let summary = Summary {
         entries: 11,
         faulted: 0,
@@ -80,7 +116,7 @@ fn a_summary_counts_the_journal_and_the_placements(rt: HostRuntime) -> Result<()
         cents: 10,
     };
     assert!(rt; desk.summary() == summary);
-    let again = desk_on(alloc, desk.end(), Settings::usual())?;
+    let again = desk_of(&rt, desk.end());
     let loaded = Summary {
         entries: 0,
         searches: 0,

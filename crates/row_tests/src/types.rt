@@ -1,0 +1,4 @@
+//! Tests of the types.
+
+mod calls;
+mod forms;

@@ -1,4 +1,0 @@
-//! Tests of the types.
-
-mod calls;
-mod forms;

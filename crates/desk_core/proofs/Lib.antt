@@ -13,6 +13,7 @@ pub mod Moments
 pub mod Numbers
 pub mod Opened
 pub mod Owned
+pub mod OwnReplies
 pub mod Pages
 pub mod Placements
 pub mod Placing

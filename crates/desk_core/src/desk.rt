@@ -11,11 +11,13 @@ ghost use Rattle.desk_types.specs.Step.{answered};
 ghost use Rattle.desk_types.specs.Tables.{line_of};
 ghost use Rattle.desk_keeper.specs.declared.keeper.KeeperFault.{KeeperFault};
 ghost use Rattle.desk_core.specs.Asking.{IsAsked, changes_at, changes_of};
-ghost use Rattle.desk_core.specs.DeskValue.{Answers, IsRunOfLedger, IsSameDesk, state};
+ghost use Rattle.desk_core.specs.DeskValue.{Answers, IsRunOfLedger, IsSameDesk, first_state, state};
 ghost use Rattle.desk_core.specs.JournalValue.{IsWithMoreRoom};
 ghost use Rattle.desk_core.specs.Planned.{CanBePutIn, listed, needs_no_room, with_changes};
 ghost use Rattle.desk_core.specs.Leaving.{Leaves, outcome_of};
 ghost use Rattle.desk_core.specs.Told.{IsThere, replied, result_told};
+ghost use Rattle.own_rows.specs.LeftAlone.{IsAsWithoutOthers};
+ghost use Rattle.own_rows.specs.OwnReply.{IsByOwnRows};
 
 use crate::asking::ask;
 use crate::journal::Journal;
@@ -62,9 +64,13 @@ impl<K: Keeper> Desk<K> {
     /// tells. `Fault::NoMemory` is want of memory, which never comes for a click or a credit where there is room for an
     /// entry and the keeper sets a fate without memory. A fault changes no row. A keeper is asked where rows change, and
     /// there alone. The room falls by one at most, and only with an entry.
+    /// An advertiser's call is answered by the rows of its account, the settings and the moment alone. So the calls
+    /// that came last make no difference to it but by the moment, where they leave its account alone.
     pub fn call(&mut self, caller: u64, moment: u64, call: Call) -> Result<Reply, Fault>
         ensures stays { IsSameDesk self.old self.new }
         ensures answers { Answers caller self.old moment call result self.new }
+        ensures own_rows { IsByOwnRows (state self.old) moment call result }
+        ensures others_aside { IsAsWithoutOthers (first_state self.old) self.old.log moment call result }
         ensures full_first { is_full self.old.settings self.old.log call ≡ true
             → result ≡ Err (Fault.JournalFull (length self.old.log) (bytes_of self.old.log)) }
         ensures sure { IsTrue self.old.keeper.sure → IsSureResult result }

@@ -1,6 +1,6 @@
 -- The parts of answers, case by case.
 use Rattle.std.proofs.Common.{◌≡◌, ℕ, List, [], Option, Some, None, Result, Ok, Err, refl, sym, ap, ◌∙◌}
-use Rattle.std.specs.Prelude.{codes, option_map, unwrap_or}
+use Rattle.std.specs.Prelude.{option_map, unwrap_or}
 use Rattle.std.specs.Borrow.{Bor}
 use Rattle.desk_types.specs.declared.entry.Fault.{Fault}
 use Rattle.desk_types.specs.declared.reply.Reply.{Reply}
@@ -40,43 +40,6 @@ pub served_allows_none : (result : Result Reply Fault) → None ≡ (parts_of (S
 unfolding parts_of
 served_allows_none (Ok given) = sym (reply_allows_none given)
 served_allows_none (Err fault) = refl
-
--- an answer has content where it goes to no link
-reply_content : (given : Reply) → (parts_of_reply given).location ≡ None → (parts_of_reply given).content ≡ Some (codes "application/json")
-reply_content (reply.Made number) none = refl
-reply_content reply.Done none = refl
-reply_content (reply.Credited price) none = refl
-reply_content (reply.HostDay day) none = refl
-reply_content (reply.Imported first count) none = refl
-reply_content (reply.Day report) none = refl
-reply_content (reply.ShownRows rows) none = refl
-reply_content (reply.Page spots) none = refl
-reply_content (reply.Went link) none = cc
-reply_content (reply.Refused refusal) none = refl
-
-reply_no_content : (given : Reply) (link : List ℕ) → (parts_of_reply given).location ≡ Some link → (parts_of_reply given).content ≡ None
-reply_no_content (reply.Made number) link some = cc
-reply_no_content reply.Done link some = cc
-reply_no_content (reply.Credited price) link some = cc
-reply_no_content (reply.HostDay day) link some = cc
-reply_no_content (reply.Imported first count) link some = cc
-reply_no_content (reply.Day report) link some = cc
-reply_no_content (reply.ShownRows rows) link some = cc
-reply_no_content (reply.Page spots) link some = cc
-reply_no_content (reply.Went target) link some = refl
-reply_no_content (reply.Refused refusal) link some = cc
-
-pub content_of_none : (answer : Answer) → None ≡ (parts_of answer).location → Some (codes "application/json") ≡ (parts_of answer).content
-unfolding parts_of
-content_of_none (Judged judgement) none = refl
-content_of_none (Served (Ok given)) none = sym (reply_content given (sym none))
-content_of_none (Served (Err fault)) none = refl
-
-pub content_of_link : (answer : Answer) (link : List ℕ) → Some link ≡ (parts_of answer).location → None ≡ (parts_of answer).content
-unfolding parts_of
-content_of_link (Judged judgement) link some = cc
-content_of_link (Served (Ok given)) link some = sym (reply_no_content given link (sym some))
-content_of_link (Served (Err fault)) link some = cc
 
 -- the text of a phrase, where there is one
 pub phrase_is : (reason : Option (Bor (List ℕ))) (default : Bor (List ℕ)) (phrase : Option (List ℕ)) → option_map (λ text. text.now) reason ≡ phrase → default.now ≡ [] → (unwrap_or reason default).now ≡ unwrap_or phrase []

@@ -24,14 +24,14 @@ use Rattle.http_api.specs.HeadValue.{HeadValue}
 use Rattle.http_api.specs.Message.{Faulty, Whole, IsMessage, is_bodiless}
 use Rattle.http_api.specs.SessionRun.{Answered, ByCall, ByJudgement, Exchange, ForMemory, IsAnswer, SessionState, answer_of, exchange_text, is_last, session_at}
 use Rattle.http_api.specs.SessionTurn.{GoesBehind, GoesOn, IsAnswered, IsDone, IsFor, TurnGoes, calling_at}
-use Rattle.http_api.specs.Verdict.{verdict_on}
+use Rattle.http_api.specs.Verdict.{IsVerdictOn}
 use Rattle.http_api.proofs.SessionMoves.{answer-broken, answer-closed, answer-full, answer-malformed, answer-on}
 
 -- an answer that is for the verdict is the one that the verdict asks for
-answer-is : {E : Type 0} (host_key : List ℕ) (head : HeadValue) (body : List ℕ) (judged : Result Verdict E) (answered : Answered) → IfOk judged (λ verdict. verdict ≡ verdict_on host_key head body) → IsFor judged answered →
+answer-is : {E : Type 0} (host_key : List ℕ) (head : HeadValue) (body : List ℕ) (judged : Result Verdict E) (answered : Answered) → IfOk judged (λ verdict. IsVerdictOn host_key head body verdict) → IsFor judged answered →
     IsAnswer host_key (Whole head body) answered
-answer-is host_key head body (Ok verdict) (ByCall moment call result) right is_for = let same : verdict ≡ Asks call = cc in sym right ∙ same
-answer-is host_key head body (Ok verdict) (ByJudgement judgement) right is_for = let same : verdict ≡ Fails judgement = cc in sym right ∙ same
+answer-is host_key head body (Ok verdict) (ByCall moment call result) right is_for = let same : verdict ≡ Asks call = cc in subst (λ (v : Verdict). IsVerdictOn host_key head body v) same right
+answer-is host_key head body (Ok verdict) (ByJudgement judgement) right is_for = let same : verdict ≡ Fails judgement = cc in subst (λ (v : Verdict). IsVerdictOn host_key head body v) same right
 answer-is host_key head body (Ok verdict) ForMemory right is_for = absurd is_for
 answer-is host_key head body (Err error) (ByCall moment call result) right is_for = absurd (cc)
 answer-is host_key head body (Err error) (ByJudgement judgement) right is_for = absurd (cc)
@@ -74,7 +74,7 @@ module _ (host_key : List ℕ) (start : SessionState) (service service' : Servic
 
   -- a head with its body
   module _ {E : Type 0} (head told : HeadValue) (body held_body : List ℕ) (goes : GoesOn host_key start (session_at service source sink moments) (bytes ++ held) messages) (is_message : IsMessage bytes (Whole head body))
-      (head_is : told ≡ head) (body_is : held_body ≡ body) (judged : Result Verdict E) (answer : Answer) (right : IfOk judged (λ verdict. verdict ≡ verdict_on host_key told held_body))
+      (head_is : told ≡ head) (body_is : held_body ≡ body) (judged : Result Verdict E) (answer : Answer) (right : IfOk judged (λ verdict. IsVerdictOn host_key told held_body verdict))
       (is_answered : IsAnswered judged (calling_at service moments) (calling_at service' moments') answer) (form : AnswerForm) (closes : Bool)
       (is_form : form ≡ record { bodiless = bytes_eq told.method (codes "HEAD"); closes = closes || messages + 1 == MESSAGES_MAX }) (is_closing : closes ≡ asks_to_close told) where
     closing : closes ≡ asks_to_close head
@@ -96,7 +96,7 @@ module _ (host_key : List ℕ) (start : SessionState) (service service' : Servic
     right-answer : IsAnswer host_key (Whole head body) is_answered.answered
     right-answer =
         answer-is host_key head body judged is_answered.answered
-        (subst (λ (h : HeadValue). IfOk judged (λ verdict. verdict ≡ verdict_on host_key h body)) head_is (subst (λ (b : List ℕ). IfOk judged (λ verdict. verdict ≡ verdict_on host_key told b)) body_is right))
+        (subst (λ (h : HeadValue). IfOk judged (λ verdict. IsVerdictOn host_key h body verdict)) head_is (subst (λ (b : List ℕ). IfOk judged (λ verdict. IsVerdictOn host_key told b verdict)) body_is right))
         is_answered.is_for
 
     pub whole-broken : (e : WriteFault) → Flushes {T = Unit {0}} sink sink' (answer_text answer form) waiting (Err e) →

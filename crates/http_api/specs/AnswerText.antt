@@ -6,12 +6,14 @@ use Rattle.desk_types.specs.declared.entry.Fault.TheVariants as fault
 use Rattle.desk_types.specs.declared.refusal.Refusal.{Refusal}
 use Rattle.desk_types.specs.declared.refusal.Refusal.TheVariants.{BadKey, NoAccount, NoCampaign, NoLine, NoNegative, NoPlacement, BadField, BadPattern, LineThere, NegativeThere, BudgetBelowUsed, NotSettled, AccountsFull, CampaignsFull, LinesFull, NegativesFull, PlacementsFull, QueryTooLong, QueryTooMany, BadRow}
 use Rattle.desk_types.specs.declared.refusal.Detail.{Detail}
-use Rattle.desk_types.specs.declared.refusal.Detail.TheVariants.{Nothing}
+use Rattle.desk_types.specs.declared.refusal.Detail.TheVariants.{Nothing, Number}
 use Rattle.desk_types.specs.declared.reply.HostDay.{HostDay}
 use Rattle.desk_types.specs.declared.reply.Reply.{Reply}
 use Rattle.desk_types.specs.declared.reply.Reply.TheVariants as reply
 use Rattle.desk_types.specs.declared.reply.Spot.{Spot}
 use Rattle.desk_types.specs.Refusal.{name_of, detail_of, number_of}
+use Rattle.ad_reports.specs.DayTable.{day_table}
+use Rattle.csv_import.specs.ShownCsv.{shown_csv}
 use Rattle.http.specs.StatusCode.{reason_phrase}
 use Rattle.http_api.specs.declared.answer.Answer.{Answer}
 use Rattle.http_api.specs.declared.answer.Answer.TheVariants.{Judged, Served}
@@ -54,6 +56,7 @@ judgement_status (judged.BadMethod allowed) = 405
 judgement_status judged.HostKey = 403
 judgement_status judged.BadQuery = 400
 judgement_status judged.BadBody = 400
+judgement_status (judged.BadCsv row) = 400
 
 abbrev pub judgement_name : Judgement → List ℕ
 judgement_name judged.NotBuilt = codes "NotBuilt"
@@ -65,6 +68,21 @@ judgement_name (judged.BadMethod allowed) = codes "BadMethod"
 judgement_name judged.HostKey = codes "HostKey"
 judgement_name judged.BadQuery = codes "BadQuery"
 judgement_name judged.BadBody = codes "BadBody"
+judgement_name (judged.BadCsv row) = codes "BadCsv"
+
+-- the number of a record that is bad, where it is one that is
+abbrev pub judgement_detail : Judgement → Detail
+judgement_detail (judged.BadCsv (Some row)) = Number row
+judgement_detail (judged.BadCsv None) = Nothing
+judgement_detail judged.NotBuilt = Nothing
+judgement_detail judged.BadHost = Nothing
+judgement_detail judged.BadEncoding = Nothing
+judgement_detail judged.BadTarget = Nothing
+judgement_detail judged.NoRoute = Nothing
+judgement_detail (judged.BadMethod allowed) = Nothing
+judgement_detail judged.HostKey = Nothing
+judgement_detail judged.BadQuery = Nothing
+judgement_detail judged.BadBody = Nothing
 
 abbrev pub allowed_by : Judgement → Option (List ℕ)
 allowed_by (judged.BadMethod allowed) = Some allowed
@@ -76,6 +94,7 @@ allowed_by judged.NoRoute = None
 allowed_by judged.HostKey = None
 allowed_by judged.BadQuery = None
 allowed_by judged.BadBody = None
+allowed_by (judged.BadCsv row) = None
 
 -- the status and the name of a fault
 abbrev pub fault_status : Fault → ℕ
@@ -131,24 +150,26 @@ pub record AnswerParts : Type 0 where
   pub location : Option (List ℕ)
   pub allow : Option (List ℕ)
 
+abbrev pub with_content : List ℕ → ℕ → List ℕ → AnswerParts
+with_content content status body =
+    record { status = status; content = Some content; body = body; location = None; allow = None }
+
 abbrev pub with_json : ℕ → List ℕ → AnswerParts
-with_json status body =
-    record { status = status; content = Some (codes "application/json"); body = body; location = None; allow = None }
+with_json status body = with_content (codes "application/json") status body
 
 abbrev pub by_judgement_alone : Judgement → AnswerParts
 by_judgement_alone judgement =
-    record (with_json (judgement_status judgement) (failure_body 0 Nothing (judgement_name judgement)))
+    record (with_json (judgement_status judgement) (failure_body 0 (judgement_detail judgement) (judgement_name judgement)))
     { allow = allowed_by judgement }
 
--- reports and statements are not asked for yet
 abbrev pub parts_of_reply : Reply → AnswerParts
 parts_of_reply (reply.Made number) = with_json 200 (object ((codes "made", decimal number) ∷ []))
 parts_of_reply reply.Done = with_json 200 (object ((codes "done", codes "true") ∷ []))
 parts_of_reply (reply.Credited price) = with_json 200 (object ((codes "credited", decimal price) ∷ []))
 parts_of_reply (reply.HostDay day) = with_json 200 (host_day_body day)
 parts_of_reply (reply.Imported first count) = with_json 200 (import_body first count)
-parts_of_reply (reply.Day report) = by_judgement_alone judged.NotBuilt
-parts_of_reply (reply.ShownRows rows) = by_judgement_alone judged.NotBuilt
+parts_of_reply (reply.Day report) = with_content (codes "text/plain; charset=utf-8") 200 (day_table report)
+parts_of_reply (reply.ShownRows rows) = with_content (codes "text/csv; charset=utf-8") 200 (shown_csv rows)
 parts_of_reply (reply.Page spots) = with_json 200 (page_body spots)
 parts_of_reply (reply.Went link) =
     record { status = 302; content = None; body = []; location = Some link; allow = None }

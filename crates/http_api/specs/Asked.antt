@@ -1,5 +1,5 @@
--- The call that a message asks for, by what its target names.
-use Rattle.std.specs.Prelude.{ℕ, Bool, if◌then◌else◌, List, [], ◌∷◌, bytes_eq, codes, Option, Some, None, option_map, option_and_then, unwrap_or}
+-- What a message asks for, by what its target names.
+use Rattle.std.specs.Prelude.{◌≡◌, ℕ, Bool, if◌then◌else◌, List, [], ◌∷◌, bytes_eq, codes, Option, Some, None, option_map, option_and_then, unwrap_or, Result, Ok, Err}
 use Rattle.std.specs.Str.{is_utf8}
 use Rattle.std.specs.Str.Lossy.{utf8_lossy}
 use Rattle.form_urlencoded.specs.Form.{decode, raw_pairs}
@@ -8,15 +8,22 @@ use Rattle.serde_json.specs.Find.{get, as_bool, as_number, as_str, as_u64}
 use Rattle.serde_json.specs.Read.{read}
 use Rattle.desk_io.specs.Number.{number}
 use Rattle.desk_types.specs.declared.call.Call.{Call}
-use Rattle.desk_types.specs.declared.call.Call.TheVariants.{AddAccount, SetQuality, Suspend, Credit, HostReport, AddCampaign, SetBudget, AddLine, SetBid, Pause, AddNegative, DropNegative, Search, Click}
+use Rattle.desk_types.specs.declared.call.Call.TheVariants.{AddAccount, SetQuality, Suspend, Credit, HostReport, AddCampaign, SetBudget, AddLine, SetBid, Pause, AddNegative, DropNegative, Import, Report, Shown, Search, Click}
+use Rattle.desk_types.specs.declared.call.ImportRow.{ImportRow}
 use Rattle.desk_types.specs.declared.call.Part.{Part}
 use Rattle.desk_types.specs.declared.call.Part.TheVariants.{OfCampaign, OfLine}
+use Rattle.csv_import.specs.declared.fault.CsvFault.{CsvFault}
+use Rattle.csv_import.specs.declared.fault.CsvFault.TheVariants as csv
+use Rattle.csv_import.specs.ImportFile.{Tells}
+use Rattle.http_api.specs.declared.judgement.Judgement.TheVariants.{BadQuery, BadBody, BadCsv}
 use Rattle.http_api.specs.declared.resource.Resource.{Resource}
 use Rattle.http_api.specs.declared.resource.Resource.TheVariants as names
 use Rattle.http_api.specs.declared.resource.HostResource.{HostResource}
 use Rattle.http_api.specs.declared.resource.HostResource.TheVariants as host
 use Rattle.http_api.specs.declared.resource.AccountResource.{AccountResource}
 use Rattle.http_api.specs.declared.resource.AccountResource.TheVariants as asked
+use Rattle.http_api.specs.declared.verdict.Verdict.{Verdict}
+use Rattle.http_api.specs.declared.verdict.Verdict.TheVariants.{Asks, Fails}
 
 -- what a body of JSON tells, where it is one
 abbrev pub json_of : List ℕ → Option Data
@@ -96,6 +103,7 @@ account_asked account key asked.AddNegative told =
     given (option_map make (number_member (codes "campaign") told))
     (text_member (codes "pattern") told)
 account_asked account key (asked.DropNegative negative) told = Some (DropNegative account key negative)
+account_asked account key (asked.Report day) told = Some (Report account key day)
 
 -- the text of a name or a value of a query
 abbrev pub form_text : List ℕ → List ℕ
@@ -110,22 +118,54 @@ first_named name (pair ∷ more) =
 abbrev pub query_value : List ℕ → List ℕ → Option (List ℕ)
 query_value name query = first_named name (raw_pairs query)
 
--- the places that a query asks for: none given where the value is missing or empty
-abbrev pub places_told : Option (List ℕ) → Option (Option ℕ)
-places_told None = Some None
-places_told (Some []) = Some None
-places_told (Some (byte ∷ more)) = option_map Some (number (byte ∷ more))
+-- the number that a value spells: none given where it is missing or empty
+abbrev pub number_told : Option (List ℕ) → Option (Option ℕ)
+number_told None = Some None
+number_told (Some []) = Some None
+number_told (Some (byte ∷ more)) = option_map Some (number (byte ∷ more))
 
+-- the places that a query asks for, and the placement from which on it asks, which is 0 where none is given
 abbrev pub places_asked : List ℕ → Option (Option ℕ)
-places_asked query = places_told (query_value (codes "n") query)
+places_asked query = number_told (query_value (codes "n") query)
+
+abbrev pub from_asked : List ℕ → Option ℕ
+from_asked query = option_map (λ given. unwrap_or given 0) (number_told (query_value (codes "from") query))
 
 -- the text that a query asks for, empty where it is missing
 abbrev pub text_asked : List ℕ → List ℕ
 text_asked query = unwrap_or (query_value (codes "q") query) []
 
--- the call, where the body is that of the resource and the query is good; the key is that of the message
-unfoldable pub call_asked : Resource → List ℕ → List ℕ → List ℕ → Option Call
-call_asked (names.Host resource) key query body = host_asked resource (json_of body)
-call_asked (names.Account account resource) key query body = account_asked account key resource (json_of body)
-call_asked names.Search key query body = option_map (λ places. Search (text_asked query) places) (places_asked query)
-call_asked (names.Click placement) key query body = Some (Click placement)
+-- the calls that a query asks for, where its number is one
+abbrev pub search_asked : List ℕ → Option Call
+search_asked query = option_map (λ places. Search (text_asked query) places) (places_asked query)
+
+abbrev pub shown_asked : ℕ → List ℕ → ℕ → List ℕ → Option Call
+shown_asked account key day query = option_map (λ from. Shown account key day from) (from_asked query)
+
+-- the verdict by the call of a query, and by that of a body
+abbrev pub by_query : Option Call → Verdict
+by_query (Some call) = Asks call
+by_query None = Fails BadQuery
+
+abbrev pub by_body : Option Call → Verdict
+by_body (Some call) = Asks call
+by_body None = Fails BadBody
+
+-- the verdict by what the file of an import tells: of a bad record its number is told
+abbrev pub by_file : ℕ → List ℕ → ℕ → Result (List ImportRow) CsvFault → Verdict
+by_file account key batch (Ok rows) = Asks (Import account key batch rows)
+by_file account key batch (Err (csv.Row place)) = Fails (BadCsv (Some place))
+by_file account key batch (Err csv.Heading) = Fails (BadCsv None)
+by_file account key batch (Err csv.TooMany) = Fails (BadCsv None)
+by_file account key batch (Err csv.NoMemory) = Fails (BadCsv None)
+
+-- the verdict for a resource, by the key of the message, its query and its body
+abbrev pub IsVerdictFor : Resource → List ℕ → List ℕ → List ℕ → Verdict → Type 0
+IsVerdictFor (names.Host resource) key query body verdict = verdict ≡ by_body (host_asked resource (json_of body))
+IsVerdictFor (names.Account account resource) key query body verdict =
+    verdict ≡ by_body (account_asked account key resource (json_of body))
+IsVerdictFor (names.Import account batch) key query body verdict =
+    (told : Result (List ImportRow) CsvFault) × Tells body told × (verdict ≡ by_file account key batch told)
+IsVerdictFor (names.Shown account day) key query body verdict = verdict ≡ by_query (shown_asked account key day query)
+IsVerdictFor names.Search key query body verdict = verdict ≡ by_query (search_asked query)
+IsVerdictFor (names.Click placement) key query body verdict = verdict ≡ Asks (Click placement)

@@ -7,7 +7,7 @@ use Rattle.desk_io.specs.Number.{number}
 use Rattle.http_api.specs.declared.route.Route.{Route}
 use Rattle.http_api.specs.declared.route.Route.TheVariants as route
 use Rattle.http_api.specs.declared.resource.Resource.{Resource}
-use Rattle.http_api.specs.declared.resource.Resource.TheVariants.{Host, Account, Search, Click}
+use Rattle.http_api.specs.declared.resource.Resource.TheVariants.{Host, Account, Import, Shown, Search, Click}
 use Rattle.http_api.specs.declared.resource.HostResource.TheVariants as host
 use Rattle.http_api.specs.declared.resource.AccountResource.{AccountResource}
 use Rattle.http_api.specs.declared.resource.AccountResource.TheVariants as asked
@@ -43,6 +43,11 @@ resource_on route.Pause path = of_account asked.Pause path
 resource_on route.AddNegative path = of_account asked.AddNegative path
 resource_on route.DropNegative path =
     option_and_then (λ negative. of_account (asked.DropNegative negative) path) (number_at 4 path)
+resource_on route.Import path =
+    option_and_then (λ batch. option_map (λ account. Import account batch) (number_at 2 path)) (number_at 4 path)
+resource_on route.Report path = option_and_then (λ day. of_account (asked.Report day) path) (number_at 4 path)
+resource_on route.Shown path =
+    option_and_then (λ day. option_map (λ account. Shown account day) (number_at 2 path)) (number_at 4 path)
 resource_on route.Search path = Some Search
 resource_on route.Click path = option_map Click (number_at 2 path)
 
@@ -57,7 +62,10 @@ method_of (Host host.AddAccount) = codes "POST"
 method_of (Host host.SetQuality) = codes "POST"
 method_of (Host host.Suspend) = codes "POST"
 method_of (Host (host.Credit placement)) = codes "POST"
+method_of (Account account (asked.Report day)) = codes "GET"
 method_of (Account account resource) = codes "POST"
+method_of (Import account batch) = codes "POST"
+method_of (Shown account day) = codes "GET"
 method_of Search = codes "GET"
 method_of (Click placement) = codes "GET"
 
@@ -65,5 +73,7 @@ method_of (Click placement) = codes "GET"
 abbrev pub is_of_host : Resource → Bool
 is_of_host (Host resource) = true
 is_of_host (Account account resource) = false
+is_of_host (Import account batch) = false
+is_of_host (Shown account day) = false
 is_of_host Search = false
 is_of_host (Click placement) = false

@@ -7,7 +7,7 @@ use Rattle.matchit.specs.Router.{RouteOf, route_from}
 use Rattle.matchit.specs.Seek.{first}
 use Rattle.matchit.specs.declared.error.InsertError.{InsertError}
 use Rattle.http_api.specs.declared.route.Route.{Route}
-use Rattle.http_api.specs.declared.route.Route.TheVariants.{AddAccount, SetQuality, Suspend, Credit, HostReport, AddCampaign, SetBudget, AddLine, SetBid, Pause, AddNegative, DropNegative, Search, Click}
+use Rattle.http_api.specs.declared.route.Route.TheVariants.{AddAccount, SetQuality, Suspend, Credit, HostReport, AddCampaign, SetBudget, AddLine, SetBid, Pause, AddNegative, DropNegative, Import, Report, Shown, Search, Click}
 
 -- the pattern of each route's path
 unfoldable pub route_table : List (List ℕ × Route)
@@ -24,6 +24,9 @@ route_table =
     ∷ (codes "/a/{account}/pause", Pause)
     ∷ (codes "/a/{account}/negatives", AddNegative)
     ∷ (codes "/a/{account}/drop/{n}", DropNegative)
+    ∷ (codes "/a/{account}/import/{batch}", Import)
+    ∷ (codes "/a/{account}/report/{day}", Report)
+    ∷ (codes "/a/{account}/shown/{day}", Shown)
     ∷ (codes "/search", Search)
     ∷ (codes "/click/{n}", Click)
     ∷ []

@@ -24,7 +24,7 @@ use Rattle.http_api.specs.AnswerText.{answer_text}
 use Rattle.http_api.specs.HeadEnd.{without_blank}
 use Rattle.http_api.specs.HeadValue.{HeadValue}
 use Rattle.http_api.specs.Message.{Message, Faulty, Whole, IsMessage, HoldsNoMessage, ends_session, is_bodiless}
-use Rattle.http_api.specs.Verdict.{verdict}
+use Rattle.http_api.specs.Verdict.{IsVerdict}
 
 -- how a message is answered: by a judgement, by a call that is made at a moment and has a result, or by want of memory
 -- before its call or its fixed answer
@@ -41,8 +41,8 @@ pub record Exchange : Type 0 where
 
 -- the answer is the one that the verdict asks for, by the key of the host; memory is not wanted for what ends the session
 abbrev pub IsAnswer : List ℕ → Message → Answered → Type 0
-IsAnswer host_key message (ByJudgement judgement) = verdict host_key message ≡ Fails judgement
-IsAnswer host_key message (ByCall moment call result) = verdict host_key message ≡ Asks call
+IsAnswer host_key message (ByJudgement judgement) = IsVerdict host_key message (Fails judgement)
+IsAnswer host_key message (ByCall moment call result) = IsVerdict host_key message (Asks call)
 IsAnswer host_key (Faulty head) ForMemory = ⊥
 IsAnswer host_key (Whole head body) ForMemory = ⊤
 

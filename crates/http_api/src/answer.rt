@@ -39,9 +39,10 @@ impl Answer {
     pub fn content(&self) -> Option<&'static str>
         ensures { option_map (λ text. text.now) result ≡ (parts_of self.now).content }
     {
-        match self.location() {
-            Some(_) => None,
-            None => Some("application/json"),
+        match self {
+            Answer::Judged(_) => Some("application/json"),
+            Answer::Served(Ok(reply)) => content_of_reply(reply),
+            Answer::Served(Err(_)) => Some("application/json"),
         }
     }
 
@@ -77,10 +78,23 @@ fn status_of_reply(reply: &Reply) -> StatusCode
         | Reply::Credited(_)
         | Reply::HostDay(_)
         | Reply::Imported { .. }
+        | Reply::Day(_)
+        | Reply::ShownRows(_)
         | Reply::Page(_) => StatusCode::OK,
-        Reply::Day(_) | Reply::ShownRows(_) => StatusCode::BAD_REQUEST,
         Reply::Went(_) => StatusCode::FOUND,
         Reply::Refused(refusal) => status_of_refusal(refusal),
+    }
+}
+
+/// The type of the content of a reply, where there is one.
+fn content_of_reply(reply: &Reply) -> Option<&'static str>
+    ensures { option_map (λ text. text.now) result ≡ (parts_of_reply reply.now).content }
+{
+    match reply {
+        Reply::Day(_) => Some("text/plain; charset=utf-8"),
+        Reply::ShownRows(_) => Some("text/csv; charset=utf-8"),
+        Reply::Went(_) => None,
+        _ => Some("application/json"),
     }
 }
 

@@ -7,7 +7,8 @@ ghost use Rattle.http_api.specs.Json.{behind_comma, member_of, object, value_tex
 
 use crate::answer::Answer;
 use crate::json::{JsonValue, Member, put_object};
-use crate::judgement::Judgement;
+use ad_reports::write_day;
+use csv_import::write_shown;
 use desk_io::{OutBuf, Sink, WriteFault};
 use desk_types::{Detail, Fault, HostDay, Reply, Spot};
 
@@ -17,7 +18,9 @@ pub fn put_body<T: Sink>(out: &mut OutBuf, sink: &mut T, answer: &Answer) -> Res
     ensures source_side { T.source_side sink.new ≡ T.source_side sink.old }
 {
     match answer {
-        Answer::Judged(judgement) => put_failure(out, sink, 0, Detail::Nothing, judgement.name()),
+        Answer::Judged(judgement) => {
+            put_failure(out, sink, 0, judgement.detail(), judgement.name())
+        }
         Answer::Served(Ok(reply)) => put_reply(out, sink, reply),
         Answer::Served(Err(fault)) => put_failure(out, sink, 0, Detail::Nothing, fault_name(fault)),
     }
@@ -64,9 +67,8 @@ fn put_reply<T: Sink>(out: &mut OutBuf, sink: &mut T, reply: &Reply) -> Result<(
         Reply::Credited(price) => put_one(out, sink, "credited", JsonValue::Number(*price)),
         Reply::HostDay(day) => put_host_day(out, sink, day),
         Reply::Imported { first, count } => put_import(out, sink, *first, *count),
-        Reply::Day(_) | Reply::ShownRows(_) => {
-            put_failure(out, sink, 0, Detail::Nothing, Judgement::NotBuilt.name())
-        }
+        Reply::Day(report) => write_day(out, sink, report),
+        Reply::ShownRows(rows) => write_shown(out, sink, rows.as_slice()),
         Reply::Page(spots) => put_page(out, sink, spots.as_slice()),
         Reply::Went(_) => Ok(()),
         Reply::Refused(refusal) => {

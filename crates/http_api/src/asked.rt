@@ -1,40 +1,96 @@
-//! The call that a message asks for, by what its target names.
+//! What a message asks for, by what its target names.
 
-ghost use Rattle.std.specs.Prelude.{◌≡◌, IfOk, option_map};
-ghost use Rattle.desk_types.specs.declared.call.Call.TheVariants.{Search};
-ghost use Rattle.http_api.specs.Asked.{account_asked, call_asked as call_by, host_asked, json_of, line_asked, places_asked as places_by, text_asked as text_by};
+ghost use Rattle.std.specs.Prelude.{◌≡◌, IfOk, List, Result};
+ghost use Rattle.http_api.specs.Asked.{IsVerdictFor, account_asked, by_body as by_the_body, by_file, by_query as by_the_query, host_asked, json_of, line_asked, search_asked, shown_asked};
+ghost use Rattle.csv_import.specs.ImportFile.{Tells};
+ghost use Rattle.csv_import.specs.declared.fault.CsvFault.{CsvFault as Fault};
+ghost use Rattle.desk_types.specs.declared.call.ImportRow.{ImportRow};
 ghost use Rattle.http_api.specs.BodyTold.{told_of};
 ghost use Rattle.http_api.specs.declared.resource.AccountResource.TheVariants as asked;
 ghost use Rattle.http_api.specs.declared.resource.HostResource.TheVariants as host;
 
 use crate::body::Body;
-use crate::query::{places_asked, text_asked};
+use crate::judgement::Judgement;
+use crate::query::{from_asked, places_asked, text_asked};
 use crate::resource::{AccountResource, HostResource, Resource};
+use crate::verdict::Verdict;
+use csv_import::{CsvFault, read_rows};
 use desk_io::NoMemory;
 use desk_types::Call;
 use query_words::Text;
-use std::alloc::Global;
+use std::alloc::{AllocError, Global};
 
-/// The call that is asked for, by the key of the message, or `None` where the body is not that of the resource, or a
-/// number of the query is none. A body that is not asked for is not read.
-#[tactic(auto, unfolding(crate::specs::Asked::call_asked))]
-pub fn call_asked(
+/// The verdict for a resource, by the key of the message: a call, or what holds of the query or of the body. A body that
+/// is not asked for is not read.
+pub fn verdict_for(
     alloc: Global,
     resource: Resource,
     key: &str,
     query: &[u8],
     body: &[u8],
-) -> Result<Option<Call>, NoMemory>
-    ensures { IfOk result (λ call. call ≡ call_by resource key.now query.now body.now) }
+) -> Result<Verdict, NoMemory>
+    ensures { IfOk result (λ verdict. IsVerdictFor resource key.now query.now body.now verdict) }
 {
     match resource {
-        Resource::Host(resource) => host_call(alloc, resource, body),
+        Resource::Host(resource) => Ok(by_body(host_call(alloc, resource, body)?)),
         Resource::Account { account, resource } => {
             let key = Text::new(alloc, key)?;
-            account_call(alloc, account, key, resource, body)
+            Ok(by_body(account_call(alloc, account, key, resource, body)?))
         }
-        Resource::Search => search_call(alloc, query),
-        Resource::Click { placement } => Ok(Some(Call::Click { placement })),
+        Resource::Import { account, batch } => {
+            let key = Text::new(alloc, key)?;
+            import_verdict(alloc, account, key, batch, body)
+        }
+        Resource::Shown { account, day } => {
+            let key = Text::new(alloc, key)?;
+            Ok(by_query(shown_call(alloc, account, key, day, query)?))
+        }
+        Resource::Search => Ok(by_query(search_call(alloc, query)?)),
+        Resource::Click { placement } => Ok(Verdict::Asks(Call::Click { placement })),
+    }
+}
+
+/// The verdict by the call of a body, where it is one.
+fn by_body(call: Option<Call>) -> Verdict
+    ensures { result ≡ by_the_body call }
+{
+    match call {
+        Some(call) => Verdict::Asks(call),
+        None => Verdict::Fails(Judgement::BadBody),
+    }
+}
+
+/// The verdict by the call of a query, where it is one.
+fn by_query(call: Option<Call>) -> Verdict
+    ensures { result ≡ by_the_query call }
+{
+    match call {
+        Some(call) => Verdict::Asks(call),
+        None => Verdict::Fails(Judgement::BadQuery),
+    }
+}
+
+/// The verdict on the file of an import.
+fn import_verdict(
+    alloc: Global,
+    account: u64,
+    key: Text,
+    batch: u64,
+    file: &[u8],
+) -> Result<Verdict, NoMemory>
+    ensures { IfOk result (λ verdict. (told : Result (List ImportRow) Fault)
+        × Tells file.now told × (verdict ≡ by_file account key batch told)) }
+{
+    match read_rows(alloc, file) {
+        Ok(rows) => Ok(Verdict::Asks(Call::Import {
+            account,
+            key,
+            batch,
+            rows,
+        })),
+        Err(CsvFault::Row(row)) => Ok(Verdict::Fails(Judgement::BadCsv(Some(row)))),
+        Err(CsvFault::Heading | CsvFault::TooMany) => Ok(Verdict::Fails(Judgement::BadCsv(None))),
+        Err(CsvFault::NoMemory) => Err(AllocError),
     }
 }
 
@@ -113,6 +169,7 @@ fn account_call(
             key,
             negative,
         })),
+        AccountResource::Report(day) => Ok(Some(Call::Report { account, key, day })),
     }
 }
 
@@ -222,12 +279,32 @@ fn new_negative(
 
 /// The call of a search.
 fn search_call(alloc: Global, query: &[u8]) -> Result<Option<Call>, NoMemory>
-    ensures { IfOk result (λ call. call
-        ≡ option_map (λ places. Search (text_by query.now) places) (places_by query.now)) }
+    ensures { IfOk result (λ call. call ≡ search_asked query.now) }
 {
     let Some(places) = places_asked(alloc, query)? else {
         return Ok(None);
     };
     let text = text_asked(alloc, query)?;
     Ok(Some(Call::Search { text, places }))
+}
+
+/// The call for a statement.
+fn shown_call(
+    alloc: Global,
+    account: u64,
+    key: Text,
+    day: u64,
+    query: &[u8],
+) -> Result<Option<Call>, NoMemory>
+    ensures { IfOk result (λ call. call ≡ shown_asked account key day query.now) }
+{
+    let Some(from) = from_asked(alloc, query)? else {
+        return Ok(None);
+    };
+    Ok(Some(Call::Shown {
+        account,
+        key,
+        day,
+        from,
+    }))
 }

@@ -1,8 +1,9 @@
 //! What is judged of a message, but the call that it asks for.
 
 ghost use Rattle.std.specs.Prelude.{◌≡◌, option_map};
-ghost use Rattle.http_api.specs.AnswerText.{judgement_status, judgement_name, allowed_by};
+ghost use Rattle.http_api.specs.AnswerText.{judgement_status, judgement_name, judgement_detail, allowed_by};
 
+use desk_types::Detail;
 use http::{Method, StatusCode};
 
 /// What holds of a message that asks for no call. The first that holds is answered.
@@ -26,6 +27,9 @@ pub enum Judgement {
     BadQuery,
     /// The body is not the route's.
     BadBody,
+    /// The body is no file of an import: the record of this number behind the heading, from 1, is bad, or, where no number
+    /// is told, the heading is, or there are too many records.
+    BadCsv(Option<u64>),
 }
 
 impl Judgement {
@@ -38,7 +42,8 @@ impl Judgement {
             | Judgement::BadHost
             | Judgement::BadTarget
             | Judgement::BadQuery
-            | Judgement::BadBody => StatusCode::BAD_REQUEST,
+            | Judgement::BadBody
+            | Judgement::BadCsv(_) => StatusCode::BAD_REQUEST,
             Judgement::BadEncoding => StatusCode::UNSUPPORTED_MEDIA_TYPE,
             Judgement::NoRoute => StatusCode::NOT_FOUND,
             Judgement::BadMethod(_) => StatusCode::METHOD_NOT_ALLOWED,
@@ -60,6 +65,17 @@ impl Judgement {
             Judgement::HostKey => "HostKey",
             Judgement::BadQuery => "BadQuery",
             Judgement::BadBody => "BadBody",
+            Judgement::BadCsv(_) => "BadCsv",
+        }
+    }
+
+    /// What its answer tells beside the name.
+    pub fn detail(&self) -> Detail
+        ensures { result ≡ judgement_detail self.now }
+    {
+        match self {
+            Judgement::BadCsv(Some(row)) => Detail::Number(*row),
+            _ => Detail::Nothing,
         }
     }
 

@@ -21,6 +21,20 @@ pub enum Resource {
         /// What of it.
         resource: AccountResource,
     },
+    /// The lines of a file, to be made in an account.
+    Import {
+        /// The account's number.
+        account: u64,
+        /// The number of the batch.
+        batch: u64,
+    },
+    /// The statement of an account for a day, from a placement on that the query names.
+    Shown {
+        /// The account's number.
+        account: u64,
+        /// The day.
+        day: u64,
+    },
     /// The page of a search.
     Search,
     /// The link of a placement.
@@ -42,7 +56,7 @@ pub enum HostResource {
     Report(u64),
 }
 
-/// What is asked for of an account.
+/// What is asked for of an account by a body of JSON, or by none.
 #[derive(Clone, Copy, Debug, PartialEq, Eq)]
 pub enum AccountResource {
     AddCampaign,
@@ -53,6 +67,8 @@ pub enum AccountResource {
     AddNegative,
     /// The dropping of a negative, by its number.
     DropNegative(u64),
+    /// The numbers of a day.
+    Report(u64),
 }
 
 impl Resource {
@@ -61,10 +77,15 @@ impl Resource {
         ensures { result ≡ method_of self.now }
     {
         match self {
-            Resource::Host(HostResource::Report(_)) | Resource::Search | Resource::Click { .. } => {
-                Method::GET
+            Resource::Host(HostResource::Report(_))
+            | Resource::Account {
+                resource: AccountResource::Report(_),
+                ..
             }
-            Resource::Host(_) | Resource::Account { .. } => Method::POST,
+            | Resource::Shown { .. }
+            | Resource::Search
+            | Resource::Click { .. } => Method::GET,
+            Resource::Host(_) | Resource::Account { .. } | Resource::Import { .. } => Method::POST,
         }
     }
 
@@ -112,6 +133,20 @@ fn resource_on(route: Route, path: &[u8]) -> Option<Resource>
         Route::DropNegative => {
             let negative = number_at(4, path)?;
             of_account(AccountResource::DropNegative(negative), path)
+        }
+        Route::Import => {
+            let batch = number_at(4, path)?;
+            let account = number_at(2, path)?;
+            Some(Resource::Import { account, batch })
+        }
+        Route::Report => {
+            let day = number_at(4, path)?;
+            of_account(AccountResource::Report(day), path)
+        }
+        Route::Shown => {
+            let day = number_at(4, path)?;
+            let account = number_at(2, path)?;
+            Some(Resource::Shown { account, day })
         }
         Route::Search => Some(Resource::Search),
         Route::Click => {

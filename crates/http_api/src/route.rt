@@ -26,6 +26,9 @@ pub enum Route {
     Pause,
     AddNegative,
     DropNegative,
+    Import,
+    Report,
+    Shown,
     Search,
     Click,
 }
@@ -86,6 +89,9 @@ fn router(alloc: Global) -> Result<Router<Route>, NoMemory>
     insert(&mut router, "/a/{account}/pause", Route::Pause)?;
     insert(&mut router, "/a/{account}/negatives", Route::AddNegative)?;
     insert(&mut router, "/a/{account}/drop/{n}", Route::DropNegative)?;
+    insert(&mut router, "/a/{account}/import/{batch}", Route::Import)?;
+    insert(&mut router, "/a/{account}/report/{day}", Route::Report)?;
+    insert(&mut router, "/a/{account}/shown/{day}", Route::Shown)?;
     insert(&mut router, "/search", Route::Search)?;
     insert(&mut router, "/click/{n}", Route::Click)?;
     Ok(router)

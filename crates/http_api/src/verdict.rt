@@ -1,13 +1,11 @@
 //! The verdict on a message.
 
-ghost use Rattle.std.specs.Prelude.{◌≡◌, ◌≢◌, IfOk};
+ghost use Rattle.std.specs.Prelude.{◌≡◌, IfOk};
 ghost use Rattle.http_api.specs.Judging.{first_made};
 ghost use Rattle.form_urlencoded.specs.Form.{split_once};
-ghost use Rattle.http_api.specs.declared.judgement.Judgement.TheVariants.{BadBody, BadQuery};
-ghost use Rattle.http_api.specs.declared.resource.Resource.TheVariants.{Search};
-ghost use Rattle.http_api.specs.Verdict.{claim_judgements, head_judgements, verdict_on};
+ghost use Rattle.http_api.specs.Verdict.{IsVerdictOn, claim_judgements, head_judgements};
 
-use crate::asked::call_asked;
+use crate::asked::verdict_for;
 use crate::head::Head;
 use crate::judgement::Judgement;
 use crate::resource::{Resource, resource_of};
@@ -35,7 +33,7 @@ pub fn judge(
     head: &Head,
     body: &[u8],
 ) -> Result<Verdict, NoMemory>
-    ensures { IfOk result (λ verdict. verdict ≡ verdict_on host_key.now head.now body.now) }
+    ensures { IfOk result (λ verdict. IsVerdictOn host_key.now head.now body.now verdict) }
 {
     if let Some(judgement) = judge_head(head) {
         return Ok(Verdict::Fails(judgement));
@@ -47,10 +45,7 @@ pub fn judge(
     if let Some(judgement) = judge_claim(head, &resource, host_key) {
         return Ok(Verdict::Fails(judgement));
     }
-    match call_asked(alloc, resource, head.key(), query, body)? {
-        Some(call) => Ok(Verdict::Asks(call)),
-        None => Ok(Verdict::Fails(without_call(resource))),
-    }
+    verdict_for(alloc, resource, head.key(), query, body)
 }
 
 /// What holds of a head whatever it asks for.
@@ -83,17 +78,6 @@ fn judge_claim(head: &Head, resource: &Resource, host_key: &Text) -> Option<Judg
         return Some(Judgement::HostKey);
     }
     None
-}
-
-/// What holds where a resource makes no call: of a search that its query is bad, and of any other that its body is.
-fn without_call(resource: Resource) -> Judgement
-    ensures query { resource ≡ Search → result ≡ BadQuery }
-    ensures body { resource ≢ Search → result ≡ BadBody }
-{
-    match resource {
-        Resource::Search => Judgement::BadQuery,
-        _ => Judgement::BadBody,
-    }
 }
 
 /// The path of a target, and the query behind its first question mark.

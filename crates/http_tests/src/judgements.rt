@@ -49,7 +49,7 @@ const JUDGED: [(&str, &str, &str, &str); 15] = [
         "NoRoute",
     ),
     (
-        "GET /a/1/report/0 HTTP/1.1~Host: h~~",
+        "GET /a/1/reports/0 HTTP/1.1~Host: h~~",
         "404 Not Found",
         "Content-Length: 39~",
         "NoRoute",
@@ -117,9 +117,13 @@ fn each_judgement_is_answered(rt: HostRuntime) -> Result<(), Fail> {
 }
 
 /// A message with the method HEAD, and its answer.
-const BODILESS: [(&str, &str); 2] = [
+const BODILESS: [(&str, &str); 3] = [
     (
         "HEAD /search HTTP/1.1~Host: h~~",
+        "HTTP/1.1 405 Method Not Allowed~Content-Type: application/json~Content-Length: 41~Allow: GET~~",
+    ),
+    (
+        "HEAD /a/1/report/0 HTTP/1.1~Host: h~Desk-Key: secret01~~",
         "HTTP/1.1 405 Method Not Allowed~Content-Type: application/json~Content-Length: 41~Allow: GET~~",
     ),
     (

@@ -1,5 +1,5 @@
 use Rattle.std.specs.Prelude.{codes}
-use Rattle.http_api.specs.declared.route.Route.TheVariants.{AddAccount, SetQuality, Suspend, Credit, HostReport, AddCampaign, SetBudget, AddLine, SetBid, Pause, AddNegative, DropNegative, Search, Click}
+use Rattle.http_api.specs.declared.route.Route.TheVariants.{AddAccount, SetQuality, Suspend, Credit, HostReport, AddCampaign, SetBudget, AddLine, SetBid, Pause, AddNegative, DropNegative, Import, Report, Shown, Search, Click}
 use Rattle.http_api.specs.Routes.{desk_rows, route_table}
 use Rattle.http_api.proofs.RoutesLemmas.{put}
 use Rattle.http_api.proofs.route.router.Goals as goal
@@ -19,5 +19,8 @@ returns c =
     let rows-10 = put (codes "/a/{account}/pause") Pause rows-9 c.in_ok-insert-10.ensures in
     let rows-11 = put (codes "/a/{account}/negatives") AddNegative rows-10 c.in_ok-insert-11.ensures in
     let rows-12 = put (codes "/a/{account}/drop/{n}") DropNegative rows-11 c.in_ok-insert-12.ensures in
-    let rows-13 = put (codes "/search") Search rows-12 c.in_ok-insert-13.ensures in
-    put (codes "/click/{n}") Click rows-13 c.in_ok-insert-14.ensures
+    let rows-13 = put (codes "/a/{account}/import/{batch}") Import rows-12 c.in_ok-insert-13.ensures in
+    let rows-14 = put (codes "/a/{account}/report/{day}") Report rows-13 c.in_ok-insert-14.ensures in
+    let rows-15 = put (codes "/a/{account}/shown/{day}") Shown rows-14 c.in_ok-insert-15.ensures in
+    let rows-16 = put (codes "/search") Search rows-15 c.in_ok-insert-16.ensures in
+    put (codes "/click/{n}") Click rows-16 c.in_ok-insert-17.ensures

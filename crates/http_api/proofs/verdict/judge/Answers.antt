@@ -1,6 +1,6 @@
-use Rattle.std.proofs.Common.{Some, None, ap, sym, ◌∙◌}
+use Rattle.std.proofs.Common.{ap, ◌∙◌}
 use Rattle.http_api.specs.Resources.{resource_of}
-use Rattle.http_api.proofs.VerdictLemmas.{asks, by_claim, by_head, call_of, no_call, no_route, parts_of}
+use Rattle.http_api.proofs.VerdictLemmas.{by_claim, by_head, no_route, parts_of, verdict_asked}
 use Rattle.http_api.proofs.verdict.judge.Goals as goal
 
 pub returns-in-Some : goal.returns-in-Some
@@ -16,15 +16,8 @@ returns-in-Some-judge_claim c =
     let parts = parts_of c.args.head.now c.split_target.result.0.now c.split_target.result.1.now c.target.result.now c.split_target.ensures c.target.ensures in
     by_claim c.args.host_key.now c.args.head.now c.args.body.now c.in_default.ensures c.in-Some-resource_of.resource (c.in-Some-resource_of.ensures ∙ ap resource_of parts.0) c.in-Some-judge_claim.judgement c.in-Some-judge_claim.ensures
 
-pub returns-in-Some-2 : goal.returns-in-Some-2
-returns-in-Some-2 c =
+pub returns : goal.returns
+returns c =
     let parts = parts_of c.args.head.now c.split_target.result.0.now c.split_target.result.1.now c.target.result.now c.split_target.ensures c.target.ensures in
-    asks c.args.host_key.now c.args.head.now c.args.body.now c.in_default.ensures c.in-Some-resource_of.resource (c.in-Some-resource_of.ensures ∙ ap resource_of parts.0) c.in_default-judge_claim.ensures c.in-Some-2.call
-    (call_of c.args.head.now c.in-Some-resource_of.resource c.key.result.now c.split_target.result.1.now c.args.body.now (Some c.in-Some-2.call) (sym c.in-Some-2.is ∙ c.in_ok-call.ensures) c.key.ensures parts.1)
-
-pub returns-in-None : goal.returns-in-None
-returns-in-None c =
-    let parts = parts_of c.args.head.now c.split_target.result.0.now c.split_target.result.1.now c.target.result.now c.split_target.ensures c.target.ensures in
-    no_call c.args.host_key.now c.args.head.now c.args.body.now c.in_default.ensures c.in-Some-resource_of.resource (c.in-Some-resource_of.ensures ∙ ap resource_of parts.0) c.in_default-judge_claim.ensures
-    (call_of c.args.head.now c.in-Some-resource_of.resource c.key.result.now c.split_target.result.1.now c.args.body.now None (sym c.in-None.is ∙ c.in_ok-call.ensures) c.key.ensures parts.1)
-    c.without_call.result c.without_call.ensures.query c.without_call.ensures.body
+    verdict_asked c.args.host_key.now c.args.head.now c.args.body.now c.in_default.ensures c.in-Some-resource_of.resource (c.in-Some-resource_of.ensures ∙ ap resource_of parts.0) c.in_default-judge_claim.ensures
+    c.verdict_for.result c.key.result.now c.split_target.result.1.now c.verdict_for.ensures c.key.ensures parts.1

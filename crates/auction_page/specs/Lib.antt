@@ -1,0 +1,7 @@
+pub mod HeadingValue
+pub mod Form
+pub mod MeetsHeading
+pub mod Reading
+pub mod Ending
+pub mod PageText
+pub mod AuctionCall

@@ -1,0 +1,3 @@
+pub mod CallState
+pub mod Printout
+pub mod Saying

@@ -1,0 +1,5 @@
+pub mod Draws
+pub mod DrillCalls
+pub mod DrillRun
+pub mod DrillTexts
+pub mod Making

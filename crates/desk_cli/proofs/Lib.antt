@@ -1,11 +1,2 @@
-pub mod PartLemmas
-pub mod TextLemmas
-pub mod FormLemmas
-pub mod Turns
-pub mod Unopened
-pub mod Meeting
-pub mod OnPage
-pub mod Sending
-pub mod Answering
 pub mod Throughout
 pub mod Paired

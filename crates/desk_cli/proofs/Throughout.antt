@@ -11,7 +11,7 @@ use Rattle.desk_types.proofs.Histories.{page_law, sound_run}
 use Rattle.desk_types.proofs.Soundness.{sound_opened, stable}
 use Rattle.desk_types.proofs.Stable.{IsStable}
 use Rattle.desk_core.specs.DeskValue.{DeskValue, IsRunOfLedger, first_state}
-use Rattle.desk_cli.specs.ScriptCall.{HoldsThroughout, IsPricedPage}
+use Rattle.desk_cli.specs.Throughout.{HoldsThroughout, IsPricedPage}
 
 -- what holds where a desk is opened
 first_stable : (desk : DeskValue) → IsRunOfLedger desk → IsStable (first_state desk)

@@ -1,10 +1,7 @@
-pub mod HeadingValue
-pub mod Form
-pub mod MeetsHeading
-pub mod Reading
-pub mod Ending
-pub mod Printout
 pub mod Saying
+pub mod Throughout
+pub mod Work
 pub mod ScriptCall
 pub mod RunCall
+pub mod DrillCall
 pub mod TopCall

@@ -1,30 +1,33 @@
--- How much of a printout is written, and the status that is answered.
-use Rattle.std.specs.Prelude.{◌≡◌, ℕ, ◌⊎◌}
-use Rattle.desk_io.specs.Faults.{Rose}
-use Rattle.desk_io.specs.Putting.{BreaksOff}
-use Rattle.desk_io.specs.SinkView.{SinkView}
-use Rattle.desk_io.specs.Writing.{Appends, AppendsNothing}
-use Rattle.desk_cli.specs.declared.status.TheConstants.{NO_MEMORY, WRITE_FAULT}
-use Rattle.desk_cli.specs.Printout.{Printout}
+-- What a call says beside the answers to its input.
+use Rattle.std.specs.Prelude.{ℕ, List, ◌++◌, codes, decimal}
+use Rattle.desk_types.specs.declared.summary.Summary.{Summary}
+use Rattle.desk_types.specs.declared.tables.BadTables.{BadTables}
+use Rattle.printouts.specs.declared.status.TheConstants.{ENDED, WORDS_REFUSED, BAD_TABLES, KEEPER_FAULT}
+use Rattle.printouts.specs.Printout.{Printout}
 
--- all of the printout is written, and its status answered
-pub record IsAllWritten (sink sink_now : SinkView) (printout : Printout) (status : ℕ) : Type 0 where
-  pub answered : status ≡ printout.status
-  pub appended : Appends sink sink_now printout.text
+-- what is said of words that no command has
+abbrev pub refused_printout : Printout
+refused_printout = record { text = codes "words refused\n"; status = WORDS_REFUSED }
 
--- a write failed: a beginning of the printout is written, and not all of it
-pub record IsBrokenOff (sink sink_now : SinkView) (printout : Printout) (status : ℕ) : Type 0 where
-  pub answered : status ≡ WRITE_FAULT
-  pub rose : Rose sink.faults sink_now.faults
-  pub broken : BreaksOff sink sink_now printout.text
+-- the line of tables that break a rule: the rule, the table and the row
+abbrev pub bad_tables_text : BadTables → List ℕ
+bad_tables_text bad =
+    codes "bad tables " ++ (decimal bad.rule ++ (codes " " ++ (decimal bad.table ++ (codes " " ++ (decimal bad.row
+    ++ codes "\n")))))
 
--- nothing is written, and this status answered
-pub record IsSilent (wanted : ℕ) (sink sink_now : SinkView) (status : ℕ) : Type 0 where
-  pub answered : status ≡ wanted
-  pub nothing : AppendsNothing sink sink_now
+-- what is said of a keeper whose tables break a rule, and of one that failed
+abbrev pub bad_tables_printout : BadTables → Printout
+bad_tables_printout bad = record { text = bad_tables_text bad; status = BAD_TABLES }
 
--- the printout is written, or a write failed, or for want of memory nothing is written
-abbrev pub IsWritten : SinkView → SinkView → Printout → ℕ → Type 0
-IsWritten sink sink_now printout status =
-    (IsAllWritten sink sink_now printout status ⊎ IsBrokenOff sink sink_now printout status)
-    ⊎ IsSilent NO_MEMORY sink sink_now status
+abbrev pub keeper_fault_printout : Printout
+keeper_fault_printout = record { text = codes "keeper fault\n"; status = KEEPER_FAULT }
+
+-- the line of a summary: its six numbers behind their names
+abbrev pub summary_text : Summary → List ℕ
+summary_text s =
+    codes "entries " ++ (decimal s.entries ++ (codes " faulted " ++ (decimal s.faulted ++ (codes " searches "
+    ++ (decimal s.searches ++ (codes " placements " ++ (decimal s.placements ++ (codes " settled "
+    ++ (decimal s.settled ++ (codes " cents " ++ (decimal s.cents ++ codes "\n")))))))))))
+
+abbrev pub summary_printout : Summary → Printout
+summary_printout s = record { text = summary_text s; status = ENDED }

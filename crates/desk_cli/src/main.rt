@@ -1,28 +1,23 @@
 //! The program `desk`: its words, its commands and their statuses.
-//! `desk_top` reads an auction and writes its page: the best ads at the least prices that keep their places; or it
-//! serves the calls of a script, or of a session of HTTP, by one desk, whose answers are the ledger's.
-//! It stands on `desk_core`, `script_api` and `http_api`, and for auctions on `desk_io`, `gsp_price` and `rank_core`.
+//! `desk_top` runs the command that its words tell: it reads an auction and writes its page, or it serves the calls of a
+//! script, of a session of HTTP or of a drill by one desk, whose answers are the ledger's.
+//! It stands on `command_line` for the words, on `auction_page`, `script_api`, `http_api` and `drill_calls` for the
+//! commands, and on `desk_core` for the desk.
 //! `main` makes the real input, output and clock, and nothing else.
 #![tactic(auto)]
 
-mod auction;
-mod fault;
-mod form;
-mod heading;
-mod limits;
-mod page;
-mod parts;
-mod reading;
-mod run;
-mod say;
-mod script;
-mod status;
+mod drilling;
+mod opening;
+mod scripting;
+mod served;
+mod sessions;
 mod top;
 
-use crate::script::Served;
+use crate::served::Served;
 use desk_io::{Clock, Sink, Source, StdSink, StdSource, WallClock};
 use desk_keeper::KeeperMem;
 use desk_types::Tables;
+use printouts::NO_MEMORY;
 use std::alloc::Global;
 use std::process::ExitCode;
 use std::{env, io, mem};
@@ -47,7 +42,7 @@ fn status_of<S: Source, T: Sink, C: Clock>(
 ) -> u8 {
     let words = match words {
         Ok(words) => words,
-        Err(error) if error.kind() == io::ErrorKind::OutOfMemory => return status::NO_MEMORY,
+        Err(error) if error.kind() == io::ErrorKind::OutOfMemory => return NO_MEMORY,
         Err(_) => Vec::new(alloc),
     };
     let keeper = KeeperMem::new(alloc, Tables::new(alloc), Vec::new(alloc));

@@ -1,6 +1,6 @@
 //! Tests of what the program answers on given words and bytes.
 
-use crate::script::Served;
+use crate::served::Served;
 use crate::top::desk_top;
 use desk_io::{MemClock, MemSink, MemSource};
 use desk_keeper::KeeperMem;
@@ -9,11 +9,9 @@ use std::alloc::{AllocError as NoMemory, Global};
 use std::process::Abort;
 use std::test::Fail;
 
-mod auctions;
-mod ends;
+mod faults;
 mod keepers;
-mod scripts;
-mod sessions;
+mod works;
 
 /// How a call goes: the size of the pieces, and the read and the write that fail, counted from 1;
 /// none fails where it is 0.
@@ -26,10 +24,15 @@ struct Way {
 
 /// In pieces of this size, with no fault.
 fn in_pieces(cut: u64) -> Way {
+    faulty(cut, 0, 0)
+}
+
+/// In pieces of this size, with this read and this write that fail.
+fn faulty(cut: u64, failing_read: u64, failing_write: u64) -> Way {
     Way {
         cut,
-        failing_read: 0,
-        failing_write: 0,
+        failing_read,
+        failing_write,
     }
 }
 
@@ -61,9 +64,9 @@ fn failing(alloc: Global, number: u64) -> Result<Vec<u64>, NoMemory> {
 }
 
 /// The words as the program is given them.
-fn words_of(alloc: Global, words: &[&str]) -> Result<Vec<String>, NoMemory> {
+fn words_of(alloc: Global, words: &str) -> Result<Vec<String>, NoMemory> {
     let mut owned = Vec::new(alloc);
-    for word in words {
+    for word in words.split(' ') {
         owned.push(String::from_str(alloc, word)?)?;
     }
     Ok(owned)
@@ -79,7 +82,7 @@ struct Setting {
 }
 
 /// Words, an input and an output in memory, and a clock at the moment 100.
-fn setting_of(alloc: Global, words: &[&str], input: &[u8], way: Way) -> Result<Setting, NoMemory> {
+fn setting_of(alloc: Global, words: &str, input: &[u8], way: Way) -> Result<Setting, NoMemory> {
     let cut = way.cut.max(1);
     let input = Vec::from_slice(alloc, input)?;
     Ok(Setting {
@@ -91,7 +94,7 @@ fn setting_of(alloc: Global, words: &[&str], input: &[u8], way: Way) -> Result<S
 }
 
 /// Calls the program on an input in memory, with a keeper that holds no rows.
-fn call(alloc: Global, words: &[&str], input: &[u8], way: Way) -> Result<Wrote, NoMemory> {
+fn call(alloc: Global, words: &str, input: &[u8], way: Way) -> Result<Wrote, NoMemory> {
     let setting = setting_of(alloc, words, input, way)?;
     let keeper = KeeperMem::new(alloc, Tables::new(alloc), Vec::new(alloc));
     let (wrote, _) = call_on(alloc, setting, keeper);
@@ -111,19 +114,30 @@ fn call_on(alloc: Global, setting: Setting, keeper: KeeperMem) -> (Wrote, Served
     (Wrote { status, output }, served)
 }
 
-/// Checks the status and the output of a call with one word; lines end with semicolons.
-fn check(
-    rt: &(impl Abort + AllocGlobal),
-    (shows, word): (&str, &str),
-    input: &str,
-    way: Way,
-    (status, output): (u8, &str),
-) -> Result<(), Fail> {
+/// What is shown, the words with a space between them, the input, how the call goes, the status and what is written; lines
+/// end with semicolons.
+type Case = (
+    &'static str,
+    &'static str,
+    &'static str,
+    Faults,
+    u8,
+    &'static str,
+);
+
+/// The size of the pieces, and the read and the write that fail, counted from 1; none fails where it is 0.
+type Faults = (u64, u64, u64);
+
+/// Checks the status and the output of calls.
+fn check_each(rt: &(impl Abort + AllocGlobal), cases: &[Case]) -> Result<(), Fail> {
     let alloc = rt.alloc();
-    let input = lines_of(alloc, input)?;
-    let output = lines_of(alloc, output)?;
-    let wrote = call(alloc, &[word], input.as_slice(), way)?;
-    assert_eq!(rt; wrote.status, status, "{shows}");
-    assert_eq!(rt; wrote.output.bytes(), output.as_slice(), "{shows}");
+    for (shows, words, input, (cut, failing_read, failing_write), status, output) in cases {
+        let way = faulty(*cut, *failing_read, *failing_write);
+        let input = lines_of(alloc, input)?;
+        let output = lines_of(alloc, output)?;
+        let wrote = call(alloc, words, input.as_slice(), way)?;
+        assert_eq!(rt; wrote.status, *status, "{shows}");
+        assert_eq!(rt; wrote.output.bytes(), output.as_slice(), "{shows}");
+    }
     Ok(())
 }

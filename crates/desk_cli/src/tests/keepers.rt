@@ -18,15 +18,18 @@ fn one_account(alloc: Global, number: u64) -> Result<Tables, NoMemory> {
 }
 
 /// Words, an account's number, the call of the keeper and the write that fail, or 0, and the status and what is written.
-type Case = (&'static str, u64, u64, u64, u8, &'static str);
+type Unopened = (&'static str, u64, u64, u64, u8, &'static str);
 
 /// Calls for which no desk is opened.
-const UNOPENED: [Case; 6] = [
+const UNOPENED: [Unopened; 9] = [
     ("script", 2, 0, 0, 6, "bad tables 3 1 1\n"),
     ("script", 2, 0, 1, 4, ""),
     ("script", 1, 1, 0, 7, "keeper fault\n"),
     ("script", 1, 1, 1, 4, ""),
     ("auction", 2, 1, 0, 8, "bad line 1\n"),
+    ("drill 7 1", 2, 0, 0, 6, "bad tables 3 1 1\n"),
+    ("drill 7 1", 1, 1, 0, 7, "keeper fault\n"),
+    ("run --host-key hostkey1", 2, 0, 0, 6, "bad tables 3 1 1\n"),
     ("drill", 2, 1, 0, 2, "words refused\n"),
 ];
 
@@ -34,11 +37,8 @@ const UNOPENED: [Case; 6] = [
 fn a_keeper_on_which_no_desk_is_opened_comes_back(rt: HostRuntime) -> Result<(), Fail> {
     let alloc = rt.alloc();
     for (word, number, failing_call, failing_write, status, output) in UNOPENED {
-        let way = Way {
-            failing_write,
-            ..in_pieces(100)
-        };
-        let setting = setting_of(alloc, &[word], b"100 host 0\n", way)?;
+        let way = faulty(100, 0, failing_write);
+        let setting = setting_of(alloc, word, b"100 host 0\n", way)?;
         let fails = failing(alloc, failing_call)?;
         let keeper = KeeperMem::new(alloc, one_account(alloc, number)?, fails);
         let (wrote, served) = call_on(alloc, setting, keeper);
@@ -62,7 +62,7 @@ const FAULTED: &[u8] =
 #[test]
 fn a_script_goes_on_behind_a_keepers_fault(rt: HostRuntime) -> Result<(), Fail> {
     let alloc = rt.alloc();
-    let setting = setting_of(alloc, &["script"], FAULTED, in_pieces(100))?;
+    let setting = setting_of(alloc, "script", FAULTED, in_pieces(100))?;
     let fails = failing(alloc, 3)?;
     let keeper = KeeperMem::new(alloc, Tables::new(alloc), fails);
     let (wrote, served) = call_on(alloc, setting, keeper);

@@ -1,9 +1,0 @@
-use Rattle.std.proofs.Common.{ap, ◌∙◌}
-use Rattle.desk_cli.specs.Reading.{SoFar}
-use Rattle.desk_cli.proofs.Meeting.{first-meet}
-use Rattle.desk_cli.proofs.reading.AuctionReading.take_heading.Goals as goal
-
-pub invariant_of-self : goal.invariant_of-self
-invariant_of-self c =
-    first-meet c.self.inside.heading c.in-Some.heading c.self.inside.eligible.items
-    (ap (λ (so_far : SoFar). so_far.heading) c.self.view_is ∙ c.requires) c.self.invariant

@@ -1,0 +1,26 @@
+use Rattle.std.proofs.Common.{◌≢◌, [], rules, refl}
+use Rattle.std.proofs.lemmas.List.Elements.{All-nil}
+use Rattle.desk_types.specs.declared.entry.Entry.{Entry}
+use Rattle.desk_types.specs.Journal.{is_full}
+use Rattle.script_tests.proofs.runs.FullService.call.Goals as goal
+
+pub returns-then-moment-eq0-clause-serves : goal.returns-then-moment-eq0-clause-serves
+unfolding is_full
+returns-then-moment-eq0-clause-serves c = record {
+  others = [];
+  of_others = All-nil (λ (e : Entry). e.caller ≢ 1);
+  ends = search rules;
+  legal = search rules;
+  stays = refl;
+  sure_result = λ _. tt;
+}
+
+pub returns-clause-serves : goal.returns-clause-serves
+returns-clause-serves c = record {
+  others = [];
+  of_others = All-nil (λ (e : Entry). e.caller ≢ 1);
+  ends = search rules;
+  legal = search rules;
+  stays = refl;
+  sure_result = λ _. tt;
+}

@@ -1,0 +1,4 @@
+pub mod Accepting
+pub mod DoorInMemory
+pub mod DoorView
+pub mod TcpEnds

@@ -1,0 +1,4 @@
+pub mod Visits
+pub mod WorkerView
+pub mod Working
+pub mod Underway

@@ -1,0 +1,5 @@
+pub mod Places
+pub mod Joiners
+pub mod Leavers
+pub mod Members
+pub mod Service

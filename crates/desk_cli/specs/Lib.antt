@@ -5,3 +5,4 @@ pub mod ScriptCall
 pub mod RunCall
 pub mod DrillCall
 pub mod TopCall
+pub mod ServeCall

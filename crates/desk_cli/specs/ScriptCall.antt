@@ -35,10 +35,10 @@ pub record IsScriptServed (before after : CallState) (desk : DeskValue) (status 
   pub said : IsLastSaid sink_then after.sink end status
 
 -- a desk that is opened with these serves the script, or none is opened
-pub record IsServed (given : Handed) (before after : CallState) (left : Left) : Type 0 where
+pub record IsScriptMade (given : Handed) (before after : CallState) (left : Left) : Type 0 where
   pub desk : DeskValue
   pub desk_left : IsDeskLeft given left desk
   pub run : IsScriptServed before after desk left.status
 
 abbrev pub ScriptEnds : Handed → CallState → CallState → Left → Type 0
-ScriptEnds given before after left = IsServed given before after left ⊎ IsUnserved given.keeper before after left
+ScriptEnds given before after left = IsScriptMade given before after left ⊎ IsUnserved given.keeper before after left

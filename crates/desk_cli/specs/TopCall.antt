@@ -13,7 +13,7 @@ use Rattle.desk_cli.specs.DrillCall.{DrillEnds}
 use Rattle.desk_cli.specs.RunCall.{RunEnds, run_at}
 use Rattle.desk_cli.specs.Saying.{refused_printout}
 use Rattle.desk_cli.specs.ScriptCall.{ScriptEnds}
-use Rattle.desk_cli.specs.Work.{Left, handed}
+use Rattle.desk_cli.specs.Work.{HasNoDesk, Left, handed}
 
 -- a call before and after it: the keeper handed in, the input and the output, the moments of the clock, where it tells
 -- them, and what the call leaves
@@ -36,16 +36,11 @@ IsUnread c = c.after.source ≡ c.before.source
 abbrev pub IsAllRead : TopCall → Type 0
 IsAllRead c = c.left.status ≡ ENDED → IfSome c.after.source.left (λ bytes. bytes ≡ [])
 
--- no desk is opened, and nothing is asked of the keeper
-pub record HasNoDesk (c : TopCall) : Type 0 where
-  pub no_desk : c.left.desk ≡ None
-  pub keeper : c.left.keeper ≡ Some c.keeper
-
 -- nothing is done
 pub record IsIdle (c : TopCall) : Type 0 where
   pub timeless : IsTimeless c
   pub unread : IsUnread c
-  pub unopened : HasNoDesk c
+  pub unopened : HasNoDesk c.keeper c.left
 
 -- the words are refused: it says so, and does nothing else
 pub record IsRefused (c : TopCall) : Type 0 where
@@ -62,7 +57,7 @@ pub record IsAuction (c : TopCall) : Type 0 where
   pub run : IsAuctionServed c.before c.after c.left.status
   pub all_read : IsAllRead c
   pub timeless : IsTimeless c
-  pub unopened : HasNoDesk c
+  pub unopened : HasNoDesk c.keeper c.left
 
 -- a desk with the settings told serves the script
 pub record IsScript (told : Told) (c : TopCall) : Type 0 where

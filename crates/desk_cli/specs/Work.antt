@@ -24,6 +24,11 @@ abbrev pub left_by : {K : Type 0} → (K → KeeperView) → Served K → Left
 left_by view served =
     record { status = served.status; desk = served.desk; keeper = option_map view served.keeper }
 
+-- no desk is opened, and nothing is asked of the keeper
+pub record HasNoDesk (keeper : KeeperView) (left : Left) : Type 0 where
+  pub no_desk : left.desk ≡ None
+  pub keeper_now : left.keeper ≡ Some keeper
+
 -- what a desk is opened with: the settings and the keeper
 pub record Handed : Type 0 where
   pub settings : SettingsValue
@@ -44,13 +49,17 @@ pub record IsOpenedWith (given : Handed) (desk : DeskValue) : Type 0 where
 abbrev pub IsSameOpening : DeskValue → DeskValue → Type 0
 IsSameOpening desk desk_now = name_of desk_now ≡ name_of desk
 
--- the desk that was opened with these is left, and its entries are all those of the caller 1
-pub record IsDeskLeft (given : Handed) (left : Left) (desk : DeskValue) : Type 0 where
+-- the desk that was opened with these is left
+pub record HasDesk (given : Handed) (left : Left) (desk : DeskValue) : Type 0 where
   pub there : left.desk ≡ Some desk
   pub no_keeper : left.keeper ≡ None
   pub opened : IsOpenedWith given desk
-  pub own : AreOwn 1 desk.log
   pub throughout : HoldsThroughout desk
+
+-- and its entries are all those of the caller 1
+pub record IsDeskLeft (given : Handed) (left : Left) (desk : DeskValue) : Type 0 where
+  pub has_desk : HasDesk given left desk
+  pub own : AreOwn 1 desk.log
 
 -- what is said where no desk is opened, and the status: the tables loaded break a rule, the keeper failed, or memory was
 -- wanted
@@ -68,11 +77,15 @@ SaysUnopened keeper keeper_now sink sink_now status =
     (SaysBadTables keeper sink sink_now status ⊎ SaysKeeperFault keeper keeper_now sink sink_now status)
     ⊎ IsSilent NO_MEMORY sink sink_now status
 
--- no desk is opened: nothing is read, and the keeper comes back with what it held
-pub record IsUnserved (keeper : KeeperView) (before after : CallState) (left : Left) : Type 0 where
+-- the keeper comes back with what it held, since no desk was opened on it, which is said, or for want of memory
+pub record ComesBack (keeper : KeeperView) (sink sink_now : SinkView) (left : Left) : Type 0 where
   pub no_desk : left.desk ≡ None
   pub keeper_now : KeeperView
   pub back : left.keeper ≡ Some keeper_now
   pub as_before : HoldsAsBefore keeper keeper_now
+  pub said : SaysUnopened keeper keeper_now sink sink_now left.status
+
+-- no desk is opened, and nothing is read
+pub record IsUnserved (keeper : KeeperView) (before after : CallState) (left : Left) : Type 0 where
+  pub back : ComesBack keeper before.sink after.sink left
   pub unread : after.source ≡ before.source
-  pub said : SaysUnopened keeper keeper_now before.sink after.sink left.status

@@ -12,9 +12,10 @@ ghost use Rattle.desk_cli.specs.Throughout.{HoldsThroughout};
 ghost use Rattle.desk_cli.specs.Work.{IsSameOpening, handed, left_by};
 
 use crate::opening::open_desk;
+use crate::saying::summary_pieces;
 use crate::served::{Served, with_desk, without_desk};
 use desk_core::{Desk, Solo};
-use desk_io::{Piece, Sink};
+use desk_io::Sink;
 use desk_keeper::Keeper;
 use desk_types::{Settings, Summary};
 use drill_calls::drill;
@@ -84,20 +85,5 @@ fn say_summary<T: Sink>(alloc: Global, output: &mut T, summary: Summary) -> u8
     ensures faults { (T.sink output.old).faults ≤ (T.sink output.new).faults }
     ensures source_side { T.source_side output.new ≡ T.source_side output.old }
 {
-    let pieces = [
-        Piece::Text("entries "),
-        Piece::Number(summary.entries),
-        Piece::Text(" faulted "),
-        Piece::Number(summary.faulted),
-        Piece::Text(" searches "),
-        Piece::Number(summary.searches),
-        Piece::Text(" placements "),
-        Piece::Number(summary.placements),
-        Piece::Text(" settled "),
-        Piece::Number(summary.settled),
-        Piece::Text(" cents "),
-        Piece::Number(summary.cents),
-        Piece::Text("\n"),
-    ];
-    say(alloc, output, &pieces, ENDED)
+    say(alloc, output, &summary_pieces(summary), ENDED)
 }

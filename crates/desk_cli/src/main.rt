@@ -1,33 +1,41 @@
 //! The program `desk`: its words, its commands and their statuses.
 //! `desk_top` runs the command that its words tell: it reads an auction and writes its page, or it serves the calls of a
-//! script, of a session of HTTP or of a drill by one desk, whose answers are the ledger's.
-//! It stands on `command_line` for the words, on `auction_page`, `script_api`, `http_api` and `drill_calls` for the
-//! commands, and on `desk_core` for the desk.
-//! `main` makes the real input, output and clock, and nothing else.
+//! script, of a session of HTTP or of a drill by one desk, whose answers are the ledger's. `serve_top` serves one such desk
+//! at several doors at once, and says what was done.
+//! It stands on `command_line` for the words, on `auction_page`, `script_api`, `http_api`, `drill_calls` and `desk_server`
+//! for the commands, and on `desk_core` for the desk.
+//! `main` makes the real input and output, the doors and the clocks, and nothing else.
 #![tactic(auto)]
 
 mod drilling;
+mod listening;
 mod opening;
+mod saying;
 mod scripting;
 mod served;
+mod serving;
 mod sessions;
 mod top;
 
-use crate::served::Served;
 use desk_io::{Clock, Sink, Source, StdSink, StdSource, WallClock};
 use desk_keeper::KeeperMem;
 use desk_types::Tables;
 use printouts::NO_MEMORY;
 use std::alloc::Global;
 use std::process::ExitCode;
-use std::{env, io, mem};
+use std::{env, io};
 
 fn main(rt: HostRuntime) -> ExitCode {
-    let mut input = StdSource::new(rt.stdin());
-    let mut output = StdSink::new(rt.stdout());
-    let words = words_of(&rt);
     let alloc = rt.alloc();
-    let mut clock = WallClock::new(rt);
+    let words = words_of(&rt);
+    let mut output = StdSink::new(rt.stdout());
+    if let Ok(words) = &words
+        && let Some(status) = listening::listen(&rt, alloc, words, &mut output)
+    {
+        return ExitCode::from(status);
+    }
+    let mut input = StdSource::new(rt.stdin());
+    let mut clock = WallClock::new(&rt);
     ExitCode::from(status_of(alloc, words, &mut input, &mut output, &mut clock))
 }
 
@@ -46,15 +54,7 @@ fn status_of<S: Source, T: Sink, C: Clock>(
         Err(_) => Vec::new(alloc),
     };
     let keeper = KeeperMem::new(alloc, Tables::new(alloc), Vec::new(alloc));
-    let Served {
-        status,
-        desk,
-        keeper,
-    } = top::desk_top(alloc, &words, input, output, keeper, clock);
-    // The process ends here, and gives back its memory as a whole.
-    mem::forget(desk);
-    mem::forget(keeper);
-    status
+    served::status_of(top::desk_top(alloc, &words, input, output, keeper, clock))
 }
 
 /// The words behind the program's name.

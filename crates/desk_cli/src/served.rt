@@ -3,7 +3,8 @@
 ghost use Rattle.std.specs.Prelude.{◌≡◌, None, Some};
 
 use desk_core::Desk;
-use desk_keeper::Keeper;
+use desk_keeper::{Keeper, KeeperMem};
+use std::mem;
 
 /// What a call of the program leaves. Exactly one of `desk` and `keeper` is there.
 #[derive(Drop)]
@@ -36,4 +37,18 @@ pub fn without_desk<K: Keeper>(status: u8, keeper: K) -> Served<K>
         desk: None,
         keeper: Some(keeper),
     }
+}
+
+/// The status of what is left as the process ends, which gives back its memory as a whole.
+pub fn status_of(served: Served<KeeperMem>) -> u8
+    ensures { result ≡ served.status }
+{
+    let Served {
+        status,
+        desk,
+        keeper,
+    } = served;
+    mem::forget(desk);
+    mem::forget(keeper);
+    status
 }

@@ -11,6 +11,7 @@ use std::test::Fail;
 
 mod faults;
 mod keepers;
+mod serving;
 mod works;
 
 /// How a call goes: the size of the pieces, and the read and the write that fail, counted from 1;

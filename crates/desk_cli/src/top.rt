@@ -4,20 +4,19 @@ ghost use Rattle.std.specs.Prelude.{◌≡◌, ◌≢◌, ◌≤◌, map, string
 ghost use Rattle.command_line.specs.Reading.{IsWellTold};
 ghost use Rattle.command_line.specs.declared.command.Command.{Command};
 ghost use Rattle.printouts.specs.CallState.{call_at};
-ghost use Rattle.printouts.specs.Saying.{IsWritten};
-ghost use Rattle.desk_cli.specs.Saying.{refused_printout};
 ghost use Rattle.desk_cli.specs.TopCall.{CallEnds, CommandEnds, TellNoRun};
 ghost use Rattle.desk_cli.specs.Work.{left_by};
 
 use crate::drilling::serve_drill;
+use crate::saying::say_refused;
 use crate::scripting::serve_script;
 use crate::served::{Served, without_desk};
 use crate::sessions::serve_run;
 use auction_page::serve_auction;
 use command_line::{Command, Told, WordsFault, desk_words};
-use desk_io::{Clock, Piece, Sink, Source};
+use desk_io::{Clock, Sink, Source};
 use desk_keeper::Keeper;
-use printouts::{ENDED, NO_MEMORY, WORDS_REFUSED, say};
+use printouts::NO_MEMORY;
 use std::alloc::Global;
 
 /// Runs the command that the words tell, and answers the status of the process with the desk that
@@ -114,19 +113,4 @@ fn work<S: Source, T: Sink, K: Keeper, C: Clock>(
             without_desk(status, keeper)
         }
     }
-}
-
-/// Says that the words are refused.
-fn say_refused<T: Sink>(alloc: Global, output: &mut T) -> u8
-    ensures written { IsWritten (T.sink output.old) (T.sink output.new) refused_printout result }
-    ensures unended { result ≢ ENDED }
-    ensures faults { (T.sink output.old).faults ≤ (T.sink output.new).faults }
-    ensures source_side { T.source_side output.new ≡ T.source_side output.old }
-{
-    say(
-        alloc,
-        output,
-        &[Piece::Text("words refused\n")],
-        WORDS_REFUSED,
-    )
 }

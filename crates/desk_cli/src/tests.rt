@@ -11,6 +11,9 @@ use std::test::Fail;
 
 mod faults;
 mod keepers;
+mod limits;
+mod refusals;
+mod scripts;
 mod serving;
 mod works;
 
@@ -89,7 +92,7 @@ fn setting_of(alloc: Global, words: &str, input: &[u8], way: Way) -> Result<Sett
     Ok(Setting {
         words: words_of(alloc, words)?,
         source: MemSource::new(input, cut, failing(alloc, way.failing_read)?),
-        output: MemSink::new(alloc, 4_096, cut, failing(alloc, way.failing_write)?)?,
+        output: MemSink::new(alloc, 65_536, cut, failing(alloc, way.failing_write)?)?,
         clock: MemClock::new(vec![in alloc; 100]?),
     })
 }
@@ -115,8 +118,8 @@ fn call_on(alloc: Global, setting: Setting, keeper: KeeperMem) -> (Wrote, Served
     (Wrote { status, output }, served)
 }
 
-/// What is shown, the words with a space between them, the input, how the call goes, the status and what is written; lines
-/// end with semicolons.
+/// What is shown, the words with a space between them, the input, how the call goes, the status and what is written;
+/// lines end with semicolons.
 type Case = (
     &'static str,
     &'static str,

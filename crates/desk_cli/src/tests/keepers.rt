@@ -17,7 +17,8 @@ fn one_account(alloc: Global, number: u64) -> Result<Tables, NoMemory> {
     Ok(tables)
 }
 
-/// Words, an account's number, the call of the keeper and the write that fail, or 0, and the status and what is written.
+/// Words, an account's number, the call of the keeper and the write that fail, or 0, and the status and what is
+/// written.
 type Unopened = (&'static str, u64, u64, u64, u8, &'static str);
 
 /// Calls for which no desk is opened.

@@ -13,6 +13,7 @@ mod faults;
 mod keepers;
 mod limits;
 mod refusals;
+mod reopened;
 mod scripts;
 mod serving;
 mod works;
